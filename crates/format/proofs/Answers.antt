@@ -1,0 +1,128 @@
+-- The enums of the acts, and the results that they say.
+--   refusal-same              two refusals of one number are the same
+--   answer-ok, answer-refused what an answer says of its result
+--   checkedOf, foundOf, blockReadOf, pointReadOf, writtenOf   the case that says a result
+--   ..-says                   and that it does
+use Prim.Native.Nat.{ℕ}
+use mathlib.Core.Path.{_≡_, refl, sym, ap, _∙_}
+use native.Mathlib.Omega.{arith}
+use mathlib.Core.List.{List, [], _∷_}
+use lib.ListN.{getD}
+use lib.IntN.{ℤ}
+use Rattle.format.specs.declared.Entry.{Entry}
+use Rattle.format.specs.declared.Refusal.{Refusal}
+use Rattle.format.specs.declared.Refusal.the-variants.{ImageLength, Magic, Version, IndexStart, EntryPastIndex, KeyLength, UnknownKind, NoBlocks, KeyOrder, TimeOrder, BlockPlace, Checksum, BlockHead, Timestamps, Values, TimesDiffer, NoSuchKey, NoEntry, ShortBuffer, BadRoll, KindClash, ImageTooLong, NoPoint}
+use Rattle.format.specs.declared.Checked.{Checked}
+use Rattle.format.specs.declared.Found.{Found}
+use Rattle.format.specs.declared.BlockRead.{BlockRead}
+use Rattle.format.specs.declared.PointRead.{PointRead}
+use Rattle.format.specs.declared.Written.{Written}
+use Rattle.format.specs.Refusals.{Result, ok, refused, refusalNumber, Answer, gives, refuses, answerOf}
+use Rattle.format.specs.Acts.{checkedSays, foundSays, blockReadSays, pointReadSays, writtenSays}
+
+-- the refusals by number; none has the number 0
+byNumber : List Refusal
+byNumber =
+    ImageLength ∷ ImageLength ∷ Magic ∷ Version ∷ IndexStart ∷ EntryPastIndex ∷ KeyLength ∷ UnknownKind ∷ NoBlocks ∷ KeyOrder ∷ TimeOrder
+    ∷ BlockPlace ∷ Checksum ∷ BlockHead ∷ Timestamps ∷ Values ∷ TimesDiffer ∷ NoSuchKey ∷ NoEntry ∷ ShortBuffer ∷ BadRoll ∷ KindClash
+    ∷ ImageTooLong ∷ NoPoint ∷ []
+
+refusalOf : ℕ → Refusal
+refusalOf n = getD byNumber n ImageLength
+
+number-back : (r : Refusal) → refusalOf (refusalNumber r) ≡ r
+unfolding refusalOf byNumber
+number-back ImageLength = refl
+number-back Magic = refl
+number-back Version = refl
+number-back IndexStart = refl
+number-back EntryPastIndex = refl
+number-back KeyLength = refl
+number-back UnknownKind = refl
+number-back NoBlocks = refl
+number-back KeyOrder = refl
+number-back TimeOrder = refl
+number-back BlockPlace = refl
+number-back Checksum = refl
+number-back BlockHead = refl
+number-back Timestamps = refl
+number-back Values = refl
+number-back TimesDiffer = refl
+number-back NoSuchKey = refl
+number-back NoEntry = refl
+number-back ShortBuffer = refl
+number-back BadRoll = refl
+number-back KindClash = refl
+number-back ImageTooLong = refl
+number-back NoPoint = refl
+
+pub refusal-same : (r q : Refusal) → refusalNumber r ≡ refusalNumber q → r ≡ q
+refusal-same r q e = sym (number-back r) ∙ ap refusalOf e ∙ number-back q
+
+module _ {A : Type 0} where
+  -- the value of an answer, or another; the number of an answer, or another
+  valueOf : A → Answer A → A
+  valueOf d (gives a) = a
+  valueOf d (refuses n) = d
+
+  numberOf : Answer A → ℕ
+  numberOf (gives a) = 0
+  numberOf (refuses n) = n
+
+  pub gives-path : {a b : A} → gives a ≡ gives b → a ≡ b
+  unfolding valueOf
+  gives-path {a} {b} e = ap (valueOf a) e
+
+  pub refuses-path : {m n : ℕ} → _≡_ {A = Answer A} (refuses m) (refuses n) → m ≡ n
+  unfolding numberOf
+  refuses-path e = ap numberOf e
+
+  -- an answer that gives, gives the value of its result
+  pub answer-ok : (x : Result A) (a : A) → answerOf x ≡ gives a → x ≡ ok a
+  answer-ok (ok b) a e = ap ok (gives-path e)
+  answer-ok (refused r place) a e = let z : _≡_ {A = ℕ} 0 1 = cc in absurd (omega arith)
+
+  -- an answer that refuses comes of a refusal of that number
+  pub answer-refused : (x : Result A) (r : Refusal) → answerOf x ≡ refuses (refusalNumber r) → (place : ℕ) × (x ≡ refused r place)
+  answer-refused (ok b) r e = let z : _≡_ {A = ℕ} 0 1 = cc in absurd (omega arith)
+  answer-refused (refused q place) r e = (place, ap (λ (s : Refusal). refused s place) (refusal-same q r (refuses-path e)))
+
+abbrev pub checkedOf : Result (ℕ × ℕ) → Checked
+checkedOf (ok t) = Checked.Totals (t .0) (t .1)
+checkedOf (refused r place) = Checked.Refused r
+
+pub checked-says : (x : Result (ℕ × ℕ)) → checkedSays (checkedOf x) ≡ answerOf x
+checked-says (ok t) = refl
+checked-says (refused r place) = refl
+
+abbrev pub foundOf : Result Entry → Found
+foundOf (ok e) = Found.At e
+foundOf (refused r place) = Found.Refused r
+
+pub found-says : (x : Result Entry) → foundSays (foundOf x) ≡ answerOf x
+found-says (ok e) = refl
+found-says (refused r place) = refl
+
+abbrev pub blockReadOf : Result (Entry × ℕ) → BlockRead
+blockReadOf (ok b) = BlockRead.Points (b .0) (b .1)
+blockReadOf (refused r place) = BlockRead.Refused r
+
+pub blockRead-says : (x : Result (Entry × ℕ)) → blockReadSays (blockReadOf x) ≡ answerOf x
+blockRead-says (ok b) = refl
+blockRead-says (refused r place) = refl
+
+abbrev pub pointReadOf : Result (Entry × ℤ) → PointRead
+pointReadOf (ok p) = PointRead.Value (p .0) (p .1)
+pointReadOf (refused r place) = PointRead.Refused r
+
+pub pointRead-says : (x : Result (Entry × ℤ)) → pointReadSays (pointReadOf x) ≡ answerOf x
+pointRead-says (ok p) = refl
+pointRead-says (refused r place) = refl
+
+abbrev pub writtenOf : Result ℕ → Written
+writtenOf (ok n) = Written.Bytes n
+writtenOf (refused r place) = Written.Refused r
+
+pub written-says : (x : Result ℕ) → writtenSays (writtenOf x) ≡ answerOf x
+written-says (ok n) = refl
+written-says (refused r place) = refl
