@@ -1,6 +1,7 @@
 -- The enums of the acts, and the results that they say.
 --   refusal-same              two refusals of one number are the same
---   answer-ok, answer-refused what an answer says of its result
+--   gives-path, refuses-path  two answers that are equal
+--   answer-ok, answer-refused, answer-number   what an answer says of its result
 --   checkedOf, foundOf, blockReadOf, pointReadOf, writtenOf   the case that says a result
 --   ..-says                   and that it does
 use Prim.Native.Nat.{ℕ}
@@ -86,6 +87,10 @@ module _ {A : Type 0} where
   pub answer-refused : (x : Result A) (r : Refusal) → answerOf x ≡ refuses (refusalNumber r) → (place : ℕ) × (x ≡ refused r place)
   answer-refused (ok b) r e = let z : _≡_ {A = ℕ} 0 1 = cc in absurd (omega arith)
   answer-refused (refused q place) r e = (place, ap (λ (s : Refusal). refused s place) (refusal-same q r (refuses-path e)))
+
+  pub answer-number : (x : Result A) (n : ℕ) → answerOf x ≡ refuses n → (r : Refusal) × (place : ℕ) × (x ≡ refused r place) × (refusalNumber r ≡ n)
+  answer-number (ok b) n e = let z : _≡_ {A = ℕ} 0 1 = cc in absurd (omega arith)
+  answer-number (refused q place) n e = (q, place, refl, refuses-path e)
 
 abbrev pub checkedOf : Result (ℕ × ℕ) → Checked
 checkedOf (ok t) = Checked.Totals (t .0) (t .1)

@@ -4,7 +4,7 @@
 --   each-append, each-left, each-right      of joins and their parts
 --   flatMap-nil, flatMap-cons, flatMap-append   a list mapped and joined
 --   not-empty, nothing-left                 a list with an element, a list without
-use Prim.Native.Nat.{ℕ, _≤_}
+use Prim.Native.Nat.{_≤_}
 use mathlib.Core.Path.{_≡_, refl}
 use mathlib.Core.Logic.{_↔_}
 use mathlib.Core.Bool.{Bool, true, false}

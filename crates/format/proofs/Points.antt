@@ -1,14 +1,22 @@
 -- Points from times and values, one by one.
 --   points-times, points-values, points-length   the parts of points, and how many
 --   points-again                                 points from their own times and values
-use Prim.Native.Nat.{ℕ, suc}
+--   time-good                                    the time of a good point is a signed 64-bit number
+use Prim.Native.Nat.{ℕ, suc, _^_, _<_}
 use mathlib.Core.Path.{_≡_, refl, ap}
+use mathlib.Core.Bool.{true, _&&_}
 use mathlib.Core.List.{List, [], _∷_, map}
 use native.Mathlib.Omega.{arith}
 use lib.IntN.{ℤ}
+use lib.Signed.{leZ, mag}
 use lib.ListN.{length}
 use Rattle.format.specs.Meaning.{Point}
+use Rattle.format.specs.declared.Kind.{Kind}
+use Rattle.format.specs.Limits.{timeLeast, timeMost}
 use Rattle.format.specs.Block.{pointsFrom}
+use Rattle.format.specs.WellFormed.{goodValue, goodPoint}
+use Rattle.format.proofs.Tests.{both-left}
+use Rattle.format.proofs.Orders.{time-fits}
 
 pub points-times : (ts : List ℤ) (vs : List ℕ) → length vs ≡ length ts → map (λ p. p .time) (pointsFrom ts vs) ≡ ts
 points-times [] vs e = refl
@@ -29,3 +37,6 @@ points-length (t ∷ ts) (v ∷ vs) e = ap suc (points-length ts vs (omega arith
 pub points-again : (ps : List Point) → pointsFrom (map (λ p. p .time) ps) (map (λ p. p .value) ps) ≡ ps
 points-again [] = refl
 points-again (p ∷ ps) = ap (λ (l : List Point). p ∷ l) (points-again ps)
+
+pub time-good : (kind : Kind) (p : Point) → goodPoint kind p ≡ true → mag (p .time) < 2 ^ 63
+time-good kind p good = time-fits (p .time) (both-left (leZ timeLeast (p .time) && leZ (p .time) timeMost) (goodValue kind (p .value)) good)

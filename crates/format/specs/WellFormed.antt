@@ -4,7 +4,6 @@
 --   wellFormed             series in order of their keys
 use Prim.Native.Nat.{ℕ, _^_}
 use mathlib.Core.Bool.{Bool, not, _&&_}
-use mathlib.Core.List.{List}
 use lib.ListN.{length}
 use lib.Signed.{leZ}
 use lib.Dec.{ltb, leb}

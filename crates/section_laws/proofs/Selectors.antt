@@ -14,7 +14,7 @@ use lib.ListN.{length, getD}
 use lib.Dec.{leb, lit<}
 use borrow.Author.Tests.{leb-true, le-leb, lt-ltb}
 use Rattle.format.specs.Simple8b.{selectors, selectorCount, selectorWidth, selectorFits, firstSelector, selectorFor}
-use Rattle.section_laws.proofs.Answers.{both-left, both-right, both-true, never}
+use Rattle.format.proofs.Tests.{both-left, both-right, both-true, never}
 
 -- ---- the table
 
