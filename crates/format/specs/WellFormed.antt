@@ -2,7 +2,8 @@
 --   goodValue, goodPoint   of a kind
 --   goodSeries             a key with its points in order
 --   wellFormed             series in order of their keys
-use Prim.Native.Nat.{ℕ, _^_}
+--   Counted                each series has fewer than 2^64 points: what a roll's point count can state
+use Prim.Native.Nat.{ℕ, _^_, _<_}
 use mathlib.Core.Bool.{Bool, not, _&&_}
 use lib.ListN.{length}
 use lib.Signed.{leZ}
@@ -10,7 +11,7 @@ use lib.Dec.{ltb, leb}
 use Rattle.format.specs.declared.Kind.{Kind}
 use Rattle.format.specs.declared.Kind.the-variants.{Integer, Boolean}
 use Rattle.format.specs.Limits.{timeLeast, timeMost}
-use Rattle.format.specs.Choice.{every, isEmpty, ascends}
+use Rattle.format.specs.Choice.{every, isEmpty, ascends, Each}
 use Rattle.format.specs.KeyOrder.{keyFits}
 use Rattle.format.specs.Meaning.{Point, Series, Meaning, pointBefore, seriesBefore}
 
@@ -32,3 +33,7 @@ goodSeries s =
 -- what a file or a roll can mean: good series with keys strictly ascending
 unfoldable pub wellFormed : Meaning → Bool
 wellFormed m = every goodSeries m && ascends seriesBefore m
+
+-- each series has fewer than 2^64 points
+abbrev pub Counted : Meaning → Type 0
+Counted m = Each (λ s. length (s .points) < 2 ^ 64) m
