@@ -4,13 +4,14 @@
 --   each-append, each-left, each-right      of joins and their parts
 --   flatMap-nil, flatMap-cons, flatMap-append   a list mapped and joined
 --   not-empty, nothing-left                 a list with an element, a list without
-use Prim.Native.Nat.{_≤_}
+--   part-lent                               a part that is lent from a place to its end
+use Prim.Native.Nat.{ℕ, _+_, _-_, _≤_}
 use mathlib.Core.Path.{_≡_, refl}
 use mathlib.Core.Logic.{_↔_}
 use mathlib.Core.Bool.{Bool, true, false}
 use mathlib.Core.List.{List, [], _∷_, _++_, flatMap, append-assoc}
 use native.Mathlib.Omega.{arith}
-use lib.ListN.{length}
+use lib.ListN.{length, take, drop}
 use Rattle.format.specs.Choice.{every, someOf, isEmpty, Each}
 use Rattle.format.proofs.Tests.{and-true, or-false}
 
@@ -71,3 +72,7 @@ not-empty (x ∷ xs) h = refl
 pub nothing-left : {A : Type 0} (xs : List A) → isEmpty xs ≡ true → xs ≡ []
 nothing-left [] e = refl
 nothing-left (x ∷ xs) e = cc
+
+-- a part that is lent from a place to its end
+pub part-lent : {A : Type 0} (xs : List A) (at n : ℕ) → take (at + n - at) (drop at xs) ≡ take n (drop at xs)
+part-lent xs at n = let size : at + n - at ≡ n = omega arith in rw size
