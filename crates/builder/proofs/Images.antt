@@ -1,0 +1,84 @@
+-- The two passes over a meaning: the first gives the lengths of blocks and index, and the second lays them.
+--   image-length    the length of an image
+--   measured-past, measured   what the first pass gives
+--   lay-room, never-past      the second has its place
+--   footer-room, image-done   what it leaves, with header and footer
+use Prim.Native.Nat.{ℕ, _+_, _≤_, _<_}
+use mathlib.Core.Path.{_≡_, refl, ap, _∙_}
+use mathlib.Core.Logic.{⊎-elim}
+use mathlib.Core.Bool.{true, false}
+use mathlib.Core.List.{List, [], _∷_, _++_}
+use native.Mathlib.Omega.{arith}
+use lib.ListN.{length, length-append}
+use Rattle.format.specs.Limits.{headerSize, footerSize, imageMost}
+use Rattle.format.specs.Bytes.{bigBytes, overwrite, splice}
+use Rattle.format.specs.Meaning.{Meaning}
+use Rattle.format.specs.File.{magic, version}
+use Rattle.format.specs.Writer.{writerBlocks, writerIndex, writerImage}
+use Rattle.format.proofs.Cases.{below-or}
+use Rattle.numbers.proofs.BigEndian.{bigBytes-length}
+use Rattle.format.proofs.Splices.{splice-front}
+use Rattle.builder.specs.Steps.{Closed, seriesEnd}
+use Rattle.builder.proofs.Series.{image-laid}
+use Rattle.builder.specs.Passes.{SeriesRoom, Past}
+
+module _ (m : Meaning) where
+  pub image-length : length (writerImage m) ≡ headerSize + length (writerBlocks m) + length (writerIndex headerSize m) + footerSize
+  unfolding writerImage
+  image-length =
+      let B = writerBlocks m in
+      let I = writerIndex 5 m in
+      let F = bigBytes 8 (5 + length B) in
+      let H : List ℕ = magic ++ (version ∷ B) in
+      omega (arith, length-append (H ++ I) F, length-append H I, bigBytes-length 8 (5 + length B))
+
+  -- ---- the first pass
+
+  pub measured-past : (lent : List ℕ) → Past (seriesEnd false m headerSize 0 lent) → imageMost < length (writerImage m)
+  unfolding seriesEnd
+  measured-past lent h =
+      ⊎-elim (λ (long : imageMost < length (writerImage m)). long)
+      (λ (short : length (writerImage m) ≤ imageMost). absurd (h .past (omega (arith, image-length)) (omega (arith, image-length))))
+      (below-or imageMost (length (writerImage m)))
+
+  module _ (block entry : ℕ) (bytes lent : List ℕ) (c : _≡_ {A = Closed} (record { block = block; entry = entry; bytes = bytes }) (seriesEnd false m headerSize 0 lent)) where
+    measured-block : block ≡ headerSize + length (writerBlocks m)
+    unfolding seriesEnd
+    measured-block = ap (λ (x : Closed). x .block) c
+
+    measured-entry : entry ≡ length (writerIndex headerSize m)
+    unfolding seriesEnd
+    measured-entry = omega (arith, ap (λ (x : Closed). x .entry) c)
+
+    pub measured : block + entry + footerSize ≡ length (writerImage m)
+    measured = omega (arith, image-length, measured-block, measured-entry)
+
+    -- ---- the second, the index at the end of the blocks
+
+    module _ (out : List ℕ) (short : length (writerImage m) ≤ imageMost) (fits : length (writerImage m) ≤ length out) where
+      pub lay-room : SeriesRoom m headerSize block out
+      lay-room = record {
+        blocks = omega (arith, measured-block);
+        index = omega (arith, measured, measured-entry, fits);
+        most = omega (arith, measured, measured-entry, short);
+      }
+
+      pub never-past : Past (seriesEnd true m headerSize block out) → ⊥
+      unfolding seriesEnd
+      never-past h = h .past (omega (arith, measured-block, measured, short)) (omega (arith, measured, measured-entry, short))
+
+      module _ (last end : ℕ) (after : List ℕ) (laid : _≡_ {A = Closed} (record { block = last; entry = end; bytes = after }) (seriesEnd true m headerSize block out)) where
+        end-is : end ≡ headerSize + length (writerBlocks m) + length (writerIndex headerSize m)
+        unfolding seriesEnd
+        end-is = ap (λ (x : Closed). x .entry) laid ∙ rw measured-block refl
+
+        after-is : after ≡ splice (headerSize + length (writerBlocks m)) (writerIndex headerSize m) (splice headerSize (writerBlocks m) out)
+        unfolding seriesEnd
+        after-is = ap (λ (x : Closed). x .bytes) laid ∙ rw measured-block refl
+
+        pub footer-room : (headerSize ≤ end) × (end + footerSize ≤ length out)
+        footer-room = (omega (arith, end-is), omega (arith, end-is, image-length, fits))
+
+        pub image-done : (done : List ℕ) → done ≡ splice end (bigBytes footerSize block) (splice 0 (magic ++ (version ∷ [])) after) → done ≡ overwrite (writerImage m) out
+        image-done done e =
+            e ∙ rw (end-is, measured-block, after-is) (image-laid m out (omega (arith, image-length, fits))) ∙ splice-front (writerImage m) out

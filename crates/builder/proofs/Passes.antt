@@ -1,0 +1,243 @@
+-- The steps of a pass within a key: what each asks holds, and after it what the next asks.
+--   past-key                                  a place of the open key is past every image
+--   push-fits, push-filling, push-same        a point is added
+--   end-fits, end-count, end-room, end-same   the key is closed
+use Prim.Native.Nat.{ℕ, _+_, _≤_, _<_}
+use mathlib.Core.Path.{_≡_, refl, sym, subst, ap, _∙_}
+use mathlib.Core.Bool.{Bool, true, false}
+use mathlib.Core.List.{List, [], _∷_, _++_, append-assoc}
+use native.Mathlib.Omega.{arith}
+use lib.IntN.{ℤ}
+use lib.ListN.{length, take, length-append}
+use lib.Seq.{length-take-le}
+use borrow.Author.Tests.{ltb-true, ltb-false}
+use Rattle.format.specs.declared.Kind.{Kind}
+use Rattle.format.specs.Limits.{writerBlockMost, imageMost}
+use Rattle.format.specs.Choice.{every, ascends}
+use Rattle.format.specs.Meaning.{Point, pointOf, pointBefore}
+use Rattle.format.specs.WellFormed.{goodPoint}
+use Rattle.format.specs.Block.{pointsFrom}
+use Rattle.section_laws.proofs.BlockLengths.{blockBytes-most}
+use Rattle.block_writer.specs.Filled.{filled, BlockFits}
+use Rattle.builder.specs.declared.Places.{Places}
+use Rattle.builder.specs.Open.{entriesLeft}
+use Rattle.builder.specs.Steps.{Room, FlushFits, PushFits, EndFits, CountFits, KeyFits, Closed, keyEnd, fuller, stays, fillPlaces, flushPlaces, flushBytes, pushPlaces, pushBytes, pushFill, endPlaces, endBytes}
+use Rattle.builder.proofs.Lefts.{Ends, ends-full, ends-last, pushed-blocks, pushed-entries}
+use Rattle.builder.proofs.Fills.{points-more, push-stays, push-flushes}
+use Rattle.builder.proofs.Futures.{end-future}
+use Rattle.builder.proofs.Pushes.{push-future, flush-room, flush-kept, entries-length}
+use Rattle.builder.specs.Passes.{Near, KeyRoom, KeyOpen, Filling, Past}
+use Rattle.builder.proofs.Fillings.{every-right, ascends-right, fill-ascends, fill-of-kind}
+
+-- ---- past every image
+
+pub past-key : (laying : Bool) (kind : Kind) (f ps : List Point) (s : Places) (out : List ℕ) → (s .block ≤ imageMost → s .entry ≤ imageMost → ⊥) → Past (keyEnd laying kind f ps s out)
+unfolding keyEnd
+past-key laying kind f ps s out h = record { past = λ b e. h (omega (arith, b)) (omega (arith, e)) }
+
+-- ---- a point is added to the fill f
+
+module _ (laying : Bool) (kind : Kind) (f : List Point) (p : Point) (ps : List Point) (s : Places) (out : List ℕ) (h : KeyOpen laying kind f (p ∷ ps) s out) where
+  abbrev f′ : List Point
+  f′ = f ++ (p ∷ [])
+
+  longer : length f′ ≡ length f + 1
+  longer = length-append f (p ∷ [])
+
+  moved : f′ ++ ps ≡ f ++ (p ∷ ps)
+  moved = append-assoc f (p ∷ []) ps
+
+  still-good : every (goodPoint kind) (f′ ++ ps) ≡ true
+  still-good = rw moved (h .good)
+
+  still-ascend : ascends pointBefore (f′ ++ ps) ≡ true
+  still-ascend = rw moved (h .ascend)
+
+  key-fits : laying ≡ true → KeyFits kind f′ ps s out
+  key-fits l =
+      let fits = h .room l .fits in
+      record {
+        blocks = rw (pushed-blocks f p ps kind) (fits .blocks);
+        count = fits .count;
+        entries = rw (pushed-entries f p ps kind (s .block)) (fits .entries);
+      }
+
+  key-most : laying ≡ true → s .entry + length (entriesLeft kind (s .block) f′ ps) ≤ imageMost
+  key-most l = rw (pushed-entries f p ps kind (s .block)) (h .room l .most)
+
+  filled-open : length f′ < writerBlockMost → KeyOpen laying kind f′ ps (fillPlaces s) out
+  unfolding fillPlaces
+  filled-open few = record {
+    fill = omega (arith, longer, h .fill);
+    few = few;
+    good = still-good;
+    ascend = still-ascend;
+    counted = h .counted;
+    places-fit = record { block-most = h .places-fit .block-most; entry-most = h .places-fit .entry-most; blocks-most = h .places-fit .blocks-most };
+    room = λ l. record {
+      fits = record { blocks = key-fits l .blocks; count = key-fits l .count; entries = key-fits l .entries };
+      most = key-most l;
+    };
+  }
+
+  module _ (full : length f′ ≡ writerBlockMost) where
+    ends : Ends f′ ps
+    ends = ends-full f′ ps full
+
+    flushed-room : laying ≡ true → KeyRoom kind [] ps (flushPlaces kind f′ s) (flushBytes laying kind f′ s out)
+    unfolding flushPlaces
+    flushed-room l =
+        let fits = key-fits l in
+        record {
+          fits = subst (λ (b : Bool). KeyFits kind [] ps (flushPlaces kind f′ s) (flushBytes b kind f′ s out)) (sym l) (flush-kept kind f′ ps ends s out fits);
+          most = omega (arith, key-most l, entries-length kind f′ ps ends s out fits);
+        }
+
+    flushed-open : Near (s .block) (s .entry) → KeyOpen laying kind [] ps (flushPlaces kind f′ s) (flushBytes laying kind f′ s out)
+    unfolding flushPlaces
+    flushed-open near = record {
+      fill = refl;
+      few = omega arith;
+      good = every-right (goodPoint kind) f′ ps still-good;
+      ascend = ascends-right pointBefore f′ ps still-ascend;
+      counted = omega (arith, h .counted);
+      places-fit = record {
+        block-most = omega (arith, near .block-near, full, blockBytes-most kind f′ (omega (arith, full)));
+        entry-most = omega (arith, near .entry-near);
+        blocks-most = omega (arith, near .entry-near, h .counted);
+      };
+      room = flushed-room;
+    }
+
+  push-open : Near (s .block) (s .entry) → KeyOpen laying kind (pushFill f′) ps (pushPlaces kind f′ s) (pushBytes laying kind f′ s out)
+  push-open near = go (stays f′) refl
+    where
+      same : {g g′ : List Point} {q q′ : Places} {x x′ : List ℕ} → g ≡ g′ → q ≡ q′ → x ≡ x′ → KeyOpen laying kind g′ ps q′ x′ → KeyOpen laying kind g ps q x
+      same a b c k = rw (a, b, c) k
+
+      go : (b : Bool) → stays f′ ≡ b → KeyOpen laying kind (pushFill f′) ps (pushPlaces kind f′ s) (pushBytes laying kind f′ s out)
+      go true e =
+          let k = push-stays laying kind f′ s out e in
+          same (k .2) (k .0) (k .1) (filled-open (ltb-true (length f′) writerBlockMost e))
+      go false e =
+          let k = push-flushes laying kind f′ s out e in
+          same (k .2) (k .0) (k .1) (flushed-open (omega (arith, longer, h .few, ltb-false (length f′) writerBlockMost e)) near)
+
+  -- where the fill is full, there is room for its block
+  push-room : writerBlockMost ≤ s .filled + 1 → FlushFits laying kind f′ s out
+  push-room full = go laying refl
+    where
+      go : (b : Bool) → laying ≡ b → FlushFits b kind f′ s out
+      go true l = flush-room kind f′ ps (ends-full f′ ps (omega (arith, longer, h .few, h .fill, full))) s out (key-fits l)
+      go false l = record { block-room = tt; entry-room = tt }
+
+-- ---- the fill in two arrays
+
+module _ (laying : Bool) (kind : Kind) (ps : List Point) (s : Places) (times : List ℤ) (values out : List ℕ) where
+  abbrev n : ℕ
+  n = s .filled
+
+  inside : Filling laying kind ps s times values out → (n ≤ length times) × (n ≤ length values)
+  inside h =
+      let few : n < writerBlockMost = omega (arith, h .key .fill, h .key .few) in
+      (omega (arith, few, h .in-times), omega (arith, few, h .in-values))
+
+  even : Filling laying kind ps s times values out → length (take n times) ≡ length (take n values)
+  even h = length-take-le n times (inside h .0) ∙ sym (length-take-le n values (inside h .1))
+
+module _ (laying : Bool) (kind : Kind) (t : ℤ) (v : ℕ) (ps : List Point) (s : Places) (times : List ℤ) (values out : List ℕ) (h : Filling laying kind (pointOf t v ∷ ps) s times values out) where
+  abbrev ts : List ℤ
+  ts = take (s .filled) times ++ (t ∷ [])
+
+  abbrev vs : List ℕ
+  vs = take (s .filled) values ++ (v ∷ [])
+
+  even-more : length ts ≡ length vs
+  even-more =
+      omega (
+        arith,
+        length-append (take (s .filled) times) (t ∷ []),
+        length-append (take (s .filled) values) (v ∷ []),
+        even laying kind (pointOf t v ∷ ps) s times values out h,
+      )
+
+  with-point : pointsFrom ts vs ++ ps ≡ filled (s .filled) times values ++ (pointOf t v ∷ ps)
+  with-point =
+      ap (λ (qs : List Point). qs ++ ps) (points-more (take (s .filled) times) (take (s .filled) values) t v (even laying kind (pointOf t v ∷ ps) s times values out h))
+      ∙ append-assoc (filled (s .filled) times values) (pointOf t v ∷ []) ps
+
+  pub push-fits : PushFits laying kind times values s t v out
+  push-fits = record {
+    few = omega (arith, h .key .fill, h .key .few);
+    in-times = h .in-times;
+    in-values = h .in-values;
+    ascend = fill-ascends ts vs ps even-more (rw with-point (h .key .ascend));
+    of-kind = fill-of-kind kind ts vs ps even-more (rw with-point (h .key .good));
+    places-fit = h .key .places-fit;
+    flush-fits = push-room laying kind (filled (s .filled) times values) (pointOf t v) ps s out (h .key);
+  }
+
+  -- the places, arrays and bytes after it
+  module _ (s′ : Places) (times′ : List ℤ) (values′ out′ : List ℕ)
+      (places : s′ ≡ pushPlaces kind (fuller (s .filled) times values t v) s)
+      (laid : out′ ≡ pushBytes laying kind (fuller (s .filled) times values t v) s out)
+      (fill : filled (s′ .filled) times′ values′ ≡ pushFill (fuller (s .filled) times values t v)) where
+    pub push-filling : Near (s .block) (s .entry) → length times′ ≡ length times → length values′ ≡ length values → Filling laying kind ps s′ times′ values′ out′
+    push-filling near same-times same-values = record {
+      in-times = omega (arith, same-times, h .in-times);
+      in-values = omega (arith, same-values, h .in-values);
+      key = rw (fill, places, laid) (push-open laying kind (filled (s .filled) times values) (pointOf t v) ps s out (h .key) near);
+    }
+
+    pub push-same : keyEnd laying kind (filled (s′ .filled) times′ values′) ps s′ out′ ≡ keyEnd laying kind (filled (s .filled) times values) (pointOf t v ∷ ps) s out
+    push-same =
+        rw (fill, places, laid)
+        (push-future laying kind (filled (s .filled) times values) (pointOf t v) ps s out (h .key .few) (λ l. h .key .room l .fits))
+
+-- ---- the key is closed
+
+module _ (laying : Bool) (kind : Kind) (s : Places) (times : List ℤ) (values out : List ℕ) (h : Filling laying kind [] s times values out) where
+  abbrev f : List Point
+  f = filled (s .filled) times values
+
+  last-fits : 1 ≤ s .filled → BlockFits kind times values (s .filled)
+  last-fits some =
+      let ts = take (s .filled) times in
+      let vs = take (s .filled) values in
+      let in-both = inside laying kind [] s times values out h in
+      let same = even laying kind [] s times values out h in
+      let count : (1 ≤ s .filled) × (s .filled ≤ writerBlockMost) = (some, omega (arith, h .key .fill, h .key .few)) in
+      record {
+        times-fit = record { count = count; inside = in-both .0; ascend = fill-ascends ts vs [] same (h .key .ascend) };
+        values-fit = record { count = count; inside = in-both .1; of-kind = fill-of-kind kind ts vs [] same (h .key .good) };
+      }
+
+  last-room : 1 ≤ s .filled → FlushFits laying kind f s out
+  last-room some = go laying refl
+    where
+      go : (b : Bool) → laying ≡ b → FlushFits b kind f s out
+      go true l =
+          let some′ : 1 ≤ length f = omega (arith, h .key .fill, some) in
+          flush-room kind f [] (ends-last f some′ (omega (arith, h .key .few))) s out (h .key .room l .fits)
+      go false l = record { block-room = tt; entry-room = tt }
+
+  pub end-fits : EndFits laying kind times values s out
+  end-fits = record { places-fit = h .key .places-fit; block-fits = last-fits; flush-fits = last-room }
+
+  pub end-count : CountFits laying (s .blocks + 1)
+  end-count = go laying refl
+    where
+      go : (b : Bool) → laying ≡ b → CountFits b (s .blocks + 1)
+      go true l = omega (arith, h .key .counted, h .key .room l .most)
+      go false l = tt
+
+  pub end-room : Room laying (s .count + 2) out
+  end-room = go laying refl
+    where
+      go : (b : Bool) → laying ≡ b → Room b (s .count + 2) out
+      go true l = omega (arith, h .key .room l .fits .count, h .key .room l .fits .entries)
+      go false l = tt
+
+  pub end-same : (s′ : Places) (out′ : List ℕ) → s′ ≡ endPlaces kind f s → out′ ≡ endBytes laying kind f s out
+      → _≡_ {A = Closed} (record { block = s′ .block; entry = s′ .entry; bytes = out′ }) (keyEnd laying kind f [] s out)
+  end-same s′ out′ e g = rw (e, g) (sym (end-future laying kind f s out (omega (arith, h .key .few)) (λ l. h .key .room l .fits)))

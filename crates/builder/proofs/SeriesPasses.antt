@@ -1,0 +1,153 @@
+-- The steps of a pass from key to key: what each asks holds, and after it what the next asks.
+--   good-key, good-points, points-ascend    a good series
+--   begin-room, begin-filling, begin-near   a key is opened
+--   series-same, series-room                a key is closed, and series are to come
+--   past-first, past-series                 a place is past every image
+--   series-none                             no series is left
+use Prim.Native.Nat.{ℕ, _+_, _≤_}
+use mathlib.Core.Path.{_≡_, refl, subst, _∙_}
+use mathlib.Core.Bool.{Bool, true, false, not, _&&_}
+use mathlib.Core.List.{List, [], _∷_, flatMap}
+use native.Mathlib.Nat.{add-zero}
+use native.Mathlib.Omega.{arith}
+use lib.IntN.{ℤ}
+use lib.Dec.{leb, ltb}
+use lib.ListN.{length}
+use borrow.Author.Tests.{leb-true}
+use Rattle.format.specs.Limits.{keyMost, writerBlockMost, imageMost}
+use Rattle.format.specs.Choice.{every, ascends, isEmpty}
+use Rattle.format.specs.Meaning.{Series, Meaning, pointBefore}
+use Rattle.format.specs.WellFormed.{goodPoint, goodSeries}
+use Rattle.format.specs.Writer.{writerIndex}
+use Rattle.format.proofs.Splices.{splice-length, splice-nothing}
+use Rattle.builder.specs.declared.Places.{Places}
+use Rattle.builder.specs.Steps.{lay, Room, Closed, keyEnd, seriesEnd, headBytes, beginPlaces}
+use Rattle.builder.proofs.Futures.{closed-same}
+use Rattle.builder.proofs.Series.{begin-future, blocks-length, index-length, head-length, count-length}
+use Rattle.builder.specs.Passes.{Near, KeyRoom, KeyOpen, Filling, SeriesRoom, Past}
+use Rattle.format.proofs.Tests.{both-left, both-right}
+
+-- ---- a good series
+
+module _ (s : Series) (good : goodSeries s ≡ true) where
+  abbrev sized : Bool
+  sized = leb 1 (length (s .key)) && leb (length (s .key)) keyMost
+
+  abbrev bytes : Bool
+  bytes = every (λ b. ltb b 256) (s .key)
+
+  abbrev some : Bool
+  some = not (isEmpty (s .points))
+
+  abbrev fitting : Bool
+  fitting = every (goodPoint (s .kind)) (s .points)
+
+  with-points : sized && bytes && some && fitting ≡ true
+  unfolding goodSeries
+  with-points = both-left (sized && bytes && some && fitting) (ascends pointBefore (s .points)) good
+
+  pub good-key : length (s .key) ≤ keyMost
+  good-key =
+      leb-true (length (s .key)) keyMost
+      (both-right (leb 1 (length (s .key))) (leb (length (s .key)) keyMost)
+      (both-left sized bytes (both-left (sized && bytes) some (both-left (sized && bytes && some) fitting with-points))))
+
+  pub good-points : every (goodPoint (s .kind)) (s .points) ≡ true
+  good-points = both-right (sized && bytes && some) fitting with-points
+
+  pub points-ascend : ascends pointBefore (s .points) ≡ true
+  unfolding goodSeries
+  points-ascend = both-right (sized && bytes && some && fitting) (ascends pointBefore (s .points)) good
+
+-- ---- a place is past every image
+
+pub past-first : (laying : Bool) (ss : Meaning) (b e : ℕ) (out : List ℕ) → (b ≤ imageMost → e ≤ imageMost → ⊥) → Past (seriesEnd laying ss b e out)
+unfolding seriesEnd
+past-first laying ss b e out h = record { past = λ x y. h (omega (arith, x)) (omega (arith, y)) }
+
+-- ---- a key is opened at the places p
+
+module _ (laying : Bool) (s : Series) (ss : Meaning) (p : Places) (out : List ℕ) (room : laying ≡ true → SeriesRoom (s ∷ ss) (p .block) (p .entry) out) where
+  abbrev opened : List ℕ
+  opened = lay laying (p .entry) (headBytes (s .key) (s .kind)) out
+
+  abbrev closed : Closed
+  closed = keyEnd laying (s .kind) [] (s .points) (beginPlaces (s .key) p) opened
+
+  pub begin-room : Room laying (p .entry + length (s .key) + 5) out
+  begin-room = go laying refl
+    where
+      go : (b : Bool) → laying ≡ b → Room b (p .entry + length (s .key) + 5) out
+      go true l = omega (arith, room l .index, index-length s ss p, head-length s ss p, count-length s ss p)
+      go false l = tt
+
+  opened-length : laying ≡ true → length opened ≡ length out
+  opened-length l = go laying l begin-room
+    where
+      go : (b : Bool) → b ≡ true → Room b (p .entry + length (s .key) + 5) out → length (lay b (p .entry) (headBytes (s .key) (s .kind)) out) ≡ length out
+      go true e inside = splice-length (p .entry) (headBytes (s .key) (s .kind)) out (omega (arith, inside, head-length s ss p))
+      go false e inside = refl
+
+  opened-room : laying ≡ true → KeyRoom (s .kind) [] (s .points) (beginPlaces (s .key) p) opened
+  unfolding beginPlaces
+  opened-room l =
+      let n = index-length s ss p in
+      let h = head-length s ss p in
+      let c = count-length s ss p in
+      record {
+        fits = record {
+          blocks = omega (arith, room l .blocks, blocks-length s ss p);
+          count = omega arith;
+          entries = omega (arith, room l .index, n, h, c, opened-length l);
+        };
+        most = omega (arith, room l .most, n, h, c);
+      }
+
+  module _ (good : goodSeries s ≡ true) (block-in : p .block ≤ imageMost) (entry-in : p .entry ≤ imageMost) where
+    opened-open : KeyOpen laying (s .kind) [] (s .points) (beginPlaces (s .key) p) opened
+    unfolding beginPlaces
+    opened-open = record {
+      fill = refl;
+      few = omega arith;
+      good = good-points s good;
+      ascend = points-ascend s good;
+      counted = omega arith;
+      places-fit = record { block-most = omega arith; entry-most = omega (arith, good-key s good); blocks-most = omega arith };
+      room = opened-room;
+    }
+
+    pub begin-filling : (s′ : Places) (times : List ℤ) (values out′ : List ℕ) → s′ ≡ beginPlaces (s .key) p → out′ ≡ opened
+        → writerBlockMost ≤ length times → writerBlockMost ≤ length values → Filling laying (s .kind) (s .points) s′ times values out′
+    unfolding beginPlaces
+    begin-filling s′ times values out′ e f in-times in-values = rw (e, f) (record { in-times = in-times; in-values = in-values; key = opened-open })
+
+    pub begin-near : Near (beginPlaces (s .key) p .block) (beginPlaces (s .key) p .entry)
+    unfolding beginPlaces
+    begin-near = record { block-near = omega arith; entry-near = omega (arith, good-key s good) }
+
+  -- ---- it is closed
+
+  pub series-same : seriesEnd laying ss (closed .block) (closed .entry) (closed .bytes) ≡ seriesEnd laying (s ∷ ss) (p .block) (p .entry) out
+  series-same = begin-future s ss p laying out (λ l. (room l .blocks, room l .index))
+
+  pub series-room : (bytes : List ℕ) → length bytes ≡ length out → laying ≡ true → SeriesRoom ss (closed .block) (closed .entry) bytes
+  unfolding keyEnd beginPlaces
+  series-room bytes same l =
+      let n = index-length s ss p in
+      let h = head-length s ss p in
+      let c = count-length s ss p in
+      record {
+        blocks = omega (arith, room l .blocks, blocks-length s ss p);
+        index = omega (arith, room l .index, n, h, c, same);
+        most = omega (arith, room l .most, n, h, c);
+      }
+
+  pub past-series : Past closed → Past (seriesEnd laying (s ∷ ss) (p .block) (p .entry) out)
+  past-series h = subst Past series-same (past-first laying ss (closed .block) (closed .entry) (closed .bytes) (h .past))
+
+-- ---- no series is left
+
+pub series-none : (laying : Bool) (b e : ℕ) (out : List ℕ) → seriesEnd laying [] b e out ≡ record { block = b; entry = e; bytes = out }
+unfolding seriesEnd writerIndex flatMap
+series-none true b e out = closed-same (add-zero b) (add-zero e) (splice-nothing e _ ∙ splice-nothing b out)
+series-none false b e out = closed-same (add-zero b) (add-zero e) refl

@@ -1,0 +1,53 @@
+-- The decoded block in the cells.
+--   held-none       where no point is left in it, none is held
+--   held-next       the next point, and those after it
+--   held-length     how many points are held
+--   held-block      right after decoding, the points of the block are held
+--   points-blocks   where none is held, the points of the key are those of its blocks
+use Prim.Native.Nat.{ℕ, suc, _+_, _-_, _≤_, _<_}
+use mathlib.Core.Path.{_≡_, sym, _∙_}
+use mathlib.Core.List.{List, [], _∷_}
+use native.Mathlib.Numerals.{add-one}
+use native.Mathlib.Omega.{arith}
+use lib.IntN.{ℤ, pos}
+use lib.ListN.{length, take, drop, getD, length-take, length-drop}
+use lib.Seq.{drop-cons}
+use Rattle.format.specs.Meaning.{Point, pointOf}
+use Rattle.format.specs.Block.{pointsFrom}
+use Rattle.format.proofs.Points.{points-length}
+use Rattle.feed.specs.declared.Feed.{Feed}
+use Rattle.feed.specs.Feeds.{blocksLeft, held, pointsLeft, advanced}
+
+-- the next element of a part
+part-next : {A : Type 0} (xs : List A) (d : A) (i n : ℕ) → i < n → n ≤ length xs
+    → take (n - i) (drop i xs) ≡ getD xs i d ∷ take (n - (i + 1)) (drop (i + 1) xs)
+part-next xs d i n h inside =
+    let more : n - i ≡ suc (n - (i + 1)) = omega arith in
+    let there : i < length xs = omega arith in
+    rw (more, drop-cons xs i d, add-one i)
+
+module _ (f : Feed) (times : List ℤ) (values : List ℕ) where
+  pub held-none : f .count ≤ f .next → held f times values ≡ []
+  unfolding held
+  held-none h = let none : f .count - f .next ≡ 0 = omega arith in rw none
+
+  pub held-next : f .next < f .count → f .count ≤ length times → f .count ≤ length values
+      → held f times values ≡ pointOf (getD times (f .next) (pos 0)) (getD values (f .next) 0) ∷ held (advanced f) times values
+  unfolding held
+  held-next h in-times in-values =
+      rw (part-next times (pos 0) (f .next) (f .count) h in-times, part-next values 0 (f .next) (f .count) h in-values)
+
+  pub held-length : f .next ≤ f .count → f .count ≤ length times → f .count ≤ length values → length (held f times values) ≡ f .count - f .next
+  unfolding held
+  held-length h in-times in-values =
+      let long : length (take (f .count - f .next) (drop (f .next) times)) ≡ f .count - f .next = simp (length-take, length-drop) (omega arith) in
+      let wide : length (take (f .count - f .next) (drop (f .next) values)) ≡ f .count - f .next = simp (length-take, length-drop) (omega arith) in
+      points-length (take (f .count - f .next) (drop (f .next) times)) (take (f .count - f .next) (drop (f .next) values)) (wide ∙ sym long) ∙ long
+
+  pub held-block : (ps : List Point) → f .next ≡ 0 → pointsFrom (take (f .count) times) (take (f .count) values) ≡ ps → held f times values ≡ ps
+  unfolding held
+  held-block ps from e = let all : f .count - 0 ≡ f .count = omega arith in rw (from, all) e
+
+  pub points-blocks : (image : List ℕ) → f .count ≤ f .next → pointsLeft image f times values ≡ blocksLeft image f
+  unfolding pointsLeft
+  points-blocks image h = rw (held-none h)

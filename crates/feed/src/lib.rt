@@ -1,0 +1,191 @@
+// The points of an image that was found good by a full check, one after the other: key by key, block by block, the block
+// being read in lent arrays. No step can be refused. Floor 5: it stands on index and block.
+use format::Entry;
+use format::FOOTER_SIZE;
+use format::ImagePlace;
+use index::Cursor;
+use index::Frame;
+use index::Step;
+ghost use mathlib.Core.Path.{_≡_};
+ghost use mathlib.Core.Bool.{true};
+ghost use Prim.Native.Nat.{_+_, _≤_};
+ghost use lib.ListN.{length};
+ghost use Rattle.format.specs.Limits.{imageMost, readBlockMost};
+ghost use Rattle.format.specs.Refusals.{isOk};
+ghost use Rattle.format.specs.Block.{readBlock};
+ghost use Rattle.format.specs.File.{blockOf, accepted};
+ghost use Rattle.block.specs.declared.BlockPoints.{BlockPoints};
+ghost use Rattle.block.specs.Answers.{blockAnswer, PointsLaid};
+ghost use Rattle.feed.specs.Feeds.{indexPart, keyOf, blocksLeft, Stands, Done, Begun, OnKey, OnBlock, OnPoint};
+
+// Where a feed stands in an image.
+pub struct Feed {
+    // Where the index starts.
+    pub start: ImagePlace,
+    // The next entry of the open key, or the next key.
+    pub cursor: Cursor,
+    // The next point of the decoded block, and the number of its points.
+    pub next: usize,
+    pub count: usize,
+}
+
+// The next key is open, or there is none.
+pub enum NextKey {
+    Key(Feed),
+    End,
+}
+
+// The next block of the open key is decoded, or there is none.
+enum NextBlock {
+    Block(Feed),
+    End,
+}
+
+// What comes next in the open key.
+pub enum NextPoint {
+    // A point of the decoded block; the caller steps past it, to `next` + 1.
+    Point { time: i64, pattern: u64 },
+    // The next block is decoded, and the feed stands at its first point.
+    Block(Feed),
+    // No point is left.
+    End,
+}
+
+// The index of an image, which starts at a place.
+fn index_part(image: &[u8], start: ImagePlace) -> &[u8]
+    requires { ⌜ start .0 + 8 ≤ length (now image) ⌝ }
+    ensures { λ r. ⌜ now r ≡ indexPart (now (image .entry)) (start .0) ⌝ }
+{
+    let from = start.0;
+    let end = image.len() - FOOTER_SIZE;
+    &image[from..end]
+}
+
+// The feed before the first key.
+pub fn first(image: &[u8]) -> Feed
+    requires { ⌜ accepted (now image) ≡ true ⌝ }
+    ensures { λ r. ⌜ Begun (now (image .entry)) r ⌝ }
+{
+    let cursor = index::first();
+    match index::check_frame(image) {
+        Frame::IndexAt(start) => Feed {
+            start,
+            cursor,
+            next: 0,
+            count: 0,
+        },
+        Frame::Refused(_, place) => Feed {
+            start: place,
+            cursor,
+            next: 0,
+            count: 0,
+        },
+    }
+}
+
+// The next key, from a feed whose open key has no point left.
+pub fn next_key(image: &[u8], feed: Feed) -> NextKey
+    requires { ⌜ Stands (now image) feed × Done feed ⌝ }
+    ensures { λ r. ⌜ OnKey (now (image .entry)) feed r ⌝ }
+{
+    let start = feed.start;
+    let cursor = feed.cursor;
+    let index = index_part(image, start);
+    match index::next(index, start, cursor) {
+        Step::Key(on) => NextKey::Key(Feed {
+            start,
+            cursor: on,
+            next: 0,
+            count: 0,
+        }),
+        Step::Entry(_, _) => NextKey::End,
+        Step::End => NextKey::End,
+        Step::Refused(_, _) => NextKey::End,
+    }
+}
+
+// The open key, as a part of the image.
+pub fn key(image: &[u8], feed: Feed) -> &[u8]
+    requires { ⌜ Stands (now image) feed ⌝ }
+    ensures { λ r. ⌜ now r ≡ keyOf (now (image .entry)) feed ⌝ }
+{
+    let start = feed.start;
+    let cursor = feed.cursor;
+    let place = cursor.key;
+    let from = start.0 + place.at.0;
+    let end = from + place.len;
+    &image[from..end]
+}
+
+// Decodes an entry's block, which is known to be good: the number of its points.
+fn open_block(image: &[u8], entry: Entry, times: &mut [i64], values: &mut [u64]) -> usize
+    requires { ⌜ (isOk (readBlock entry (blockOf (now image) entry)) ≡ true) × (entry .offset .0 + entry .size ≤ length (now image)) × (length (now image) ≤ imageMost) × (readBlockMost ≤ length (now times)) × (readBlockMost ≤ length (now values)) ⌝ }
+    ensures count { λ r. ⌜ BlockPoints.Count r ≡ blockAnswer (readBlock entry (blockOf (now (image .entry)) entry)) ⌝ }
+    ensures cells { λ r. ⌜ PointsLaid (readBlock entry (blockOf (now (image .entry)) entry)) (now (times .entry)) (now (times .exit)) (now (values .entry)) (now (values .exit)) ⌝ }
+{
+    let offset = entry.offset;
+    let from = offset.0;
+    let end = from + entry.size as usize;
+    block::read_good(&image[from..end], entry, times, values)
+}
+
+// Decodes the next block of the open key.
+fn next_block(image: &[u8], feed: Feed, times: &mut [i64], values: &mut [u64]) -> NextBlock
+    requires { ⌜ Stands (now image) feed × (readBlockMost ≤ length (now times)) × (readBlockMost ≤ length (now values)) ⌝ }
+    ensures { λ r. ⌜ OnBlock (now (image .entry)) feed (now (times .exit)) (now (values .exit)) r ⌝ }
+{
+    let start = feed.start;
+    let cursor = feed.cursor;
+    if cursor.left == 0 {
+        return NextBlock::End;
+    }
+    let index = index_part(image, start);
+    let Step::Entry(entry, on) = index::next(index, start, cursor) else {
+        return NextBlock::End;
+    };
+    let count = open_block(image, entry, times, values);
+    NextBlock::Block(Feed {
+        start,
+        cursor: on,
+        next: 0,
+        count,
+    })
+}
+
+// The number of points of the open key, of which no block is decoded yet. It decodes them all; the feed stays.
+pub fn count_points(image: &[u8], feed: Feed, times: &mut [i64], values: &mut [u64]) -> usize
+    requires { ⌜ Stands (now image) feed × (readBlockMost ≤ length (now times)) × (readBlockMost ≤ length (now values)) ⌝ }
+    ensures { λ r. ⌜ r ≡ length (blocksLeft (now (image .entry)) feed) ⌝ }
+{
+    let mut on = feed;
+    let mut count: usize = 0;
+    loop {
+        match next_block(image, on, times, values) {
+            NextBlock::Block(next) => {
+                count += next.count;
+                on = next;
+            }
+            NextBlock::End => {
+                return count;
+            }
+        }
+    }
+}
+
+// The next point of the open key, or the next block where all points of the decoded one were taken.
+pub fn next_point(image: &[u8], feed: Feed, times: &mut [i64], values: &mut [u64]) -> NextPoint
+    requires { ⌜ Stands (now image) feed × (readBlockMost ≤ length (now times)) × (readBlockMost ≤ length (now values)) ⌝ }
+    ensures { λ r. ⌜ OnPoint (now (image .entry)) feed (now (times .entry)) (now (values .entry)) (now (times .exit)) (now (values .exit)) r ⌝ }
+{
+    let at = feed.next;
+    if at < feed.count {
+        return NextPoint::Point {
+            time: times[at],
+            pattern: values[at],
+        };
+    }
+    match next_block(image, feed, times, values) {
+        NextBlock::Block(on) => NextPoint::Block(on),
+        NextBlock::End => NextPoint::End,
+    }
+}

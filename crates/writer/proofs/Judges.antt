@@ -1,0 +1,109 @@
+-- The test that gives a pass up, and the answer to the length of an image.
+--   past-block, past-entry   the test, by its parts
+--   past-both, past-neither             what it says
+--   judged-long, judged-short, judged-fits   the answer, by its tests
+--   Answers, judged-answers             it is the answer of the acts, with what becomes of the buffer
+use Prim.Native.Nat.{ℕ, _≤_, _<_}
+use mathlib.Core.Path.{_≡_, refl, sym, ap, _∙_}
+use mathlib.Core.Logic.{⊎-elim}
+use mathlib.Core.Bool.{Bool, true, false, _||_}
+use mathlib.Core.List.{List}
+use native.Mathlib.Omega.{arith}
+use lib.Dec.{ltb}
+use lib.ListN.{length}
+use borrow.Author.Tests.{lt-ltb, le-ltb, lt-leb, le-leb, ltb-false}
+use Rattle.format.specs.declared.Refusal.{Refusal}
+use Rattle.format.specs.declared.Refusal.the-variants.{ShortBuffer, ImageTooLong}
+use Rattle.format.specs.declared.Written.{Written}
+use Rattle.format.specs.Limits.{imageMost}
+use Rattle.format.specs.Bytes.{overwrite}
+use Rattle.format.specs.Refusals.{Result, ok, refused, answerOf}
+use Rattle.format.specs.Meaning.{Meaning}
+use Rattle.format.specs.Writer.{writerImage}
+use Rattle.format.specs.Acts.{laid, imageResult, writtenSays, sized}
+use Rattle.format.proofs.Cases.{below-or}
+use Rattle.writer.specs.Judging.{pastImage, judged}
+
+module _ (b e : ℕ) where
+  pub past-block : imageMost < b → pastImage b e ≡ true
+  unfolding pastImage
+  past-block h = rw (lt-ltb imageMost b h)
+
+  pub past-entry : b ≤ imageMost → ltb imageMost e ≡ pastImage b e
+  unfolding pastImage
+  past-entry h = rw (le-ltb imageMost b h)
+
+  -- the places are not both within an image
+  pub past-both : pastImage b e ≡ true → b ≤ imageMost → e ≤ imageMost → ⊥
+  unfolding pastImage
+  past-both h x y = let z : _≡_ {A = Bool} false true = rw (le-ltb imageMost b x, le-ltb imageMost e y) at h in let w : _≡_ {A = ℕ} 0 1 = cc in omega arith
+
+  -- the places are both within an image
+  pub past-neither : pastImage b e ≡ false → (b ≤ imageMost) × (e ≤ imageMost)
+  unfolding pastImage
+  past-neither h = by (ltb imageMost b) refl (ltb imageMost e) refl h
+    where
+      by : (x : Bool) → ltb imageMost b ≡ x → (y : Bool) → ltb imageMost e ≡ y → x || y ≡ false → (b ≤ imageMost) × (e ≤ imageMost)
+      by false p false q k = (ltb-false imageMost b p, ltb-false imageMost e q)
+      by false p true q k = let w : _≡_ {A = ℕ} 0 1 = cc in absurd (omega arith)
+      by true p false q k = let w : _≡_ {A = ℕ} 0 1 = cc in absurd (omega arith)
+      by true p true q k = let w : _≡_ {A = ℕ} 0 1 = cc in absurd (omega arith)
+
+module _ (total room : ℕ) where
+  pub judged-long : imageMost < total → judged total room ≡ Written.Refused ImageTooLong
+  unfolding judged
+  judged-long h = rw (lt-leb total imageMost h)
+
+  pub judged-short : total ≤ imageMost → room < total → judged total room ≡ Written.Refused ShortBuffer
+  unfolding judged
+  judged-short h k = rw (le-leb total imageMost h, lt-leb total room k)
+
+  pub judged-fits : total ≤ imageMost → total ≤ room → judged total room ≡ Written.Bytes total
+  unfolding judged
+  judged-fits h k = rw (le-leb total imageMost h, le-leb total room k)
+
+-- ---- the answer and the buffer of an act, of the meaning m
+
+module _ (m : Meaning) (out : List ℕ) where
+  abbrev total : ℕ
+  total = length (writerImage m)
+
+  too-long : imageMost < total → imageResult m out ≡ refused ImageTooLong 0
+  unfolding imageResult
+  too-long h = rw (lt-leb total imageMost h)
+
+  too-short : total ≤ imageMost → length out < total → imageResult m out ≡ refused ShortBuffer 0
+  unfolding imageResult
+  too-short h k = rw (le-leb total imageMost h, lt-leb total (length out) k)
+
+  fitting : total ≤ imageMost → total ≤ length out → imageResult m out ≡ ok (writerImage m)
+  unfolding imageResult
+  fitting h k = rw (le-leb total imageMost h, le-leb total (length out) k)
+
+  -- the answer, and the buffer unless it is laid over
+  pub record Answers (answer : Written) : Type 0 where
+    pub says : writtenSays answer ≡ answerOf (sized (imageResult m out))
+    pub left : (r : Refusal) → answer ≡ Written.Refused r → laid (imageResult m out) out ≡ out
+    pub laid-over : (n : ℕ) → answer ≡ Written.Bytes n → (total ≤ imageMost) × (total ≤ length out) × (laid (imageResult m out) out ≡ overwrite (writerImage m) out)
+
+  pub judged-answers : Answers (judged total (length out))
+  judged-answers =
+      ⊎-elim
+      (λ (h : imageMost < total). refusing ImageTooLong (judged-long total (length out) h) (too-long h))
+      (λ (h : total ≤ imageMost).
+      ⊎-elim
+      (λ (k : length out < total). refusing ShortBuffer (judged-short total (length out) h k) (too-short h k))
+      (λ (k : total ≤ length out). record {
+        says = ap writtenSays (judged-fits total (length out) h k) ∙ ap (λ (x : Result (List ℕ)). answerOf (sized x)) (sym (fitting h k));
+        left = λ r e. let f = judged-fits total (length out) h k in let w : _≡_ {A = ℕ} 0 1 = cc in absurd (omega arith);
+        laid-over = λ n e. (h, k, ap (λ (x : Result (List ℕ)). laid x out) (fitting h k));
+      })
+      (below-or (length out) total))
+      (below-or imageMost total)
+    where
+      refusing : (r : Refusal) → judged total (length out) ≡ Written.Refused r → imageResult m out ≡ refused r 0 → Answers (judged total (length out))
+      refusing r j i = record {
+        says = ap writtenSays j ∙ ap (λ (x : Result (List ℕ)). answerOf (sized x)) (sym i);
+        left = λ q e. ap (λ (x : Result (List ℕ)). laid x out) i;
+        laid-over = λ n e. let w : _≡_ {A = ℕ} 0 1 = cc in absurd (omega arith);
+      }

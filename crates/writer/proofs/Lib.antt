@@ -1,0 +1,15 @@
+-- The laws of this crate.
+--   Judges   the test that gives a pass up, and the answer to the length of an image
+--   Adds     adding the points after a key's first
+--   Points   adding all points of a key
+--   Series   adding a series
+--   Passes   a pass over all series
+--   Writes   the act
+--   Responses   what the program writes
+pub mod Judges
+pub mod Adds
+pub mod Points
+pub mod Series
+pub mod Passes
+pub mod Writes
+pub mod Responses
