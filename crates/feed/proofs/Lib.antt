@@ -1,13 +1,17 @@
--- The laws of this crate; a client of a feed needs those of Cells.
+-- The laws of this crate; a client of a feed needs `ok-of` of Keys, `points-blocks` of Cells and `file-size` of Sizes.
 --   Readings   blocks and series that were read, one by one
 --   Standing   a feed by what its index and its blocks read
 --   Cells      the decoded block in the cells
---   Steps      each step of a feed
+--   Keys       the first feed, and the next key
+--   Blocks     the next block
+--   Points     the next point
 --   Counts     counting the points of a key
 --   Sizes      how much an accepted image can mean
 pub mod Readings
 pub mod Standing
 pub mod Cells
-pub mod Steps
+pub mod Keys
+pub mod Blocks
+pub mod Points
 pub mod Counts
 pub mod Sizes

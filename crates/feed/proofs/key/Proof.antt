@@ -3,7 +3,7 @@ use borrow.Author.Needs.{needs}
 use native.Mathlib.Omega.{arith}
 use lib.ListN.{length-take, length-drop}
 use Rattle.feed.proofs.Standing.{starts}
-use Rattle.feed.proofs.Steps.{key-part}
+use Rattle.feed.proofs.Keys.{key-part}
 use Rattle.feed.proofs.key.Statement.{statement}
 use Rattle.feed.proofs.key.Tie as tie
 

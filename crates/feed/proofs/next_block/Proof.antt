@@ -15,18 +15,24 @@ use Rattle.index.specs.declared.Step.{Step}
 use Rattle.index.specs.Cursors.{stepAt, Sound}
 use Rattle.index.proofs.Step.{the-type}
 use Rattle.block.proofs.Answers.{answer-points}
+use Rattle.feed.specs.declared.Feed.{Feed}
 use Rattle.feed.specs.Feeds.{indexPart}
 use Rattle.feed.proofs.Standing.{starts}
-use Rattle.feed.proofs.Steps.{no-block, block-step, block-known, block-opened}
+use Rattle.feed.proofs.Blocks.{no-block, block-step, block-known, block-opened}
 use Rattle.feed.proofs.next_block.Statement.{statement}
 use Rattle.feed.proofs.next_block.Tie as tie
 
 -- the step of the cursor, over the index of the image
-step-is : (c : tie.After-next) (s : Step) → c .next .result ≡ s
-    → stepAt (indexPart (c .before .before .before .before .before .before .before .before .args .image .now) (c .before .before .before .before .before .before .before .before .args .feed .start .0)) (c .before .before .before .before .before .before .before .before .args .feed .start .0) (c .before .before .before .before .before .before .before .before .args .feed .cursor) ≡ s
-step-is c s e =
-    let f = c .before .before .before .before .before .before .before .before .args .feed in
-    ap (λ (l : List ℕ). stepAt l (f .start .0) (f .cursor)) (sym (c .before .index-part .ensures)) ∙ sym (c .next .ensures) ∙ e
+module _ (c : tie.After-next) where
+  abbrev image : List ℕ
+  image = c .before .before .before .before .before .before .before .before .args .image .now
+
+  abbrev feed : Feed
+  feed = c .before .before .before .before .before .before .before .before .args .feed
+
+  step-is : (s : Step) → c .next .result ≡ s → stepAt (indexPart image (feed .start .0)) (feed .start .0) (feed .cursor) ≡ s
+  step-is s e =
+      ap (λ (l : List ℕ). stepAt l (feed .start .0) (feed .cursor)) (sym (c .before .index-part .ensures)) ∙ sym (c .next .ensures) ∙ e
 
 -- a step that takes an entry is no other
 entry-tag : (s : Step) (e : Entry) (d : Cursor) → s ≡ Step.Entry e d → OneOf (0 ∷ 2 ∷ 3 ∷ []) (tagOf the-type s) → ⊥

@@ -6,18 +6,24 @@ use mathlib.Core.List.{List}
 use native.Mathlib.Omega.{arith}
 use Rattle.index.specs.declared.Step.{Step}
 use Rattle.index.specs.Cursors.{stepAt, Sound}
+use Rattle.feed.specs.declared.Feed.{Feed}
 use Rattle.feed.specs.Feeds.{indexPart}
 use Rattle.feed.proofs.Standing.{starts}
-use Rattle.feed.proofs.Steps.{key-opened, no-key, key-not-entry, not-refused}
+use Rattle.feed.proofs.Keys.{key-opened, no-key, key-not-entry, not-refused}
 use Rattle.feed.proofs.next_key.Statement.{statement}
 use Rattle.feed.proofs.next_key.Tie as tie
 
 -- the step of the cursor, over the index of the image
-step-is : (c : tie.After-next) (s : Step) → c .next .result ≡ s
-    → stepAt (indexPart (c .before .before .before .before .before .args .image .now) (c .before .before .before .before .before .args .feed .start .0)) (c .before .before .before .before .before .args .feed .start .0) (c .before .before .before .before .before .args .feed .cursor) ≡ s
-step-is c s e =
-    let f = c .before .before .before .before .before .args .feed in
-    ap (λ (l : List ℕ). stepAt l (f .start .0) (f .cursor)) (sym (c .before .index-part .ensures)) ∙ sym (c .next .ensures) ∙ e
+module _ (c : tie.After-next) where
+  abbrev image : List ℕ
+  image = c .before .before .before .before .before .args .image .now
+
+  abbrev feed : Feed
+  feed = c .before .before .before .before .before .args .feed
+
+  step-is : (s : Step) → c .next .result ≡ s → stepAt (indexPart image (feed .start .0)) (feed .start .0) (feed .cursor) ≡ s
+  step-is s e =
+      ap (λ (l : List ℕ). stepAt l (feed .start .0) (feed .cursor)) (sym (c .before .index-part .ensures)) ∙ sym (c .next .ensures) ∙ e
 
 index-part-requires : tie.Need-index-part-requires
 index-part-requires c κs =

@@ -1,21 +1,31 @@
 -- `next_point` meets its contract: the next point of the decoded block, or the next block.
 use borrow.Author.Needs.{needs}
 use mathlib.Core.Path.{_≡_, subst}
-use lib.IntN.{pos}
+use Prim.Native.Nat.{ℕ}
+use mathlib.Core.List.{List}
+use lib.IntN.{ℤ, pos}
 use lib.ListN.{getD}
 use mir.Syntax.{w64}
 use mir.ValLaws.{toZ-ofZ}
 use Rattle.feed.specs.declared.NextBlock.{NextBlock}
 use Rattle.feed.specs.Feeds.{OnBlock}
-use Rattle.feed.proofs.Steps.{point-here, block-after, no-point}
+use Rattle.feed.proofs.Points.{point-here, block-after, no-point}
 use Rattle.feed.proofs.next_point.Statement.{statement}
 use Rattle.feed.proofs.next_point.Tie as tie
 
--- what the next block's answer says
-answered : (c : tie.After-next-block) (r : NextBlock) → c .next-block .result ≡ r
-    → OnBlock (c .before .before .before .before .before .before .before .args .image .now) (c .before .before .before .before .before .before .before .args .feed) (c .next-block .last .1 .1 .0) (c .next-block .last .1 .1 .1 .0) r
-answered c r e =
-    subst (OnBlock (c .before .before .before .before .before .before .before .args .image .now) (c .before .before .before .before .before .before .before .args .feed) (c .next-block .last .1 .1 .0) (c .next-block .last .1 .1 .1 .0)) e (c .next-block .ensures)
+-- after the next block
+module _ (c : tie.After-next-block) where
+  abbrev start : tie.Start
+  start = c .before .before .before .before .before .before .before
+
+  abbrev newTimes : List ℤ
+  newTimes = c .next-block .last .1 .1 .0
+
+  abbrev newValues : List ℕ
+  newValues = c .next-block .last .1 .1 .1 .0
+
+  answered : (r : NextBlock) → c .next-block .result ≡ r → OnBlock (start .args .image .now) (start .args .feed) newTimes newValues r
+  answered r e = subst (OnBlock (start .args .image .now) (start .args .feed) newTimes newValues) e (c .next-block .ensures)
 
 mul-t8 : tie.Need-mul-t8
 mul-t8 c = search needs

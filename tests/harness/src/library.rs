@@ -1,0 +1,358 @@
+//! The static library `libtsm.a` behind the same interface, and memory with guard pages to lend to
+//! it. All unsafe code of the tests is here.
+
+use crate::acts::{Acts, EntryOut, Query};
+use crate::lent::{Cell, Lent, Memory};
+
+/// The C interface of the library.
+mod c {
+    extern "C" {
+        pub fn tsm_check(
+            image: *const u8,
+            image_len: usize,
+            keys: *mut u64,
+            points: *mut u64,
+        ) -> u8;
+
+        pub fn tsm_find(
+            image: *const u8,
+            image_len: usize,
+            key: *const u8,
+            key_len: usize,
+            time: i64,
+            kind: *mut u8,
+            min: *mut i64,
+            max: *mut i64,
+            offset: *mut u64,
+            size: *mut u32,
+        ) -> u8;
+
+        pub fn tsm_read_block(
+            image: *const u8,
+            image_len: usize,
+            key: *const u8,
+            key_len: usize,
+            time: i64,
+            times: *mut i64,
+            times_len: usize,
+            values: *mut i64,
+            values_len: usize,
+            kind: *mut u8,
+            min: *mut i64,
+            max: *mut i64,
+            offset: *mut u64,
+            size: *mut u32,
+            count: *mut usize,
+        ) -> u8;
+
+        pub fn tsm_read_point(
+            image: *const u8,
+            image_len: usize,
+            key: *const u8,
+            key_len: usize,
+            time: i64,
+            kind: *mut u8,
+            min: *mut i64,
+            max: *mut i64,
+            offset: *mut u64,
+            size: *mut u32,
+            value: *mut i64,
+        ) -> u8;
+
+        pub fn tsm_write(
+            roll: *const u8,
+            roll_len: usize,
+            out: *mut u8,
+            out_len: usize,
+            written: *mut usize,
+        ) -> u8;
+
+        pub fn tsm_unroll(
+            image: *const u8,
+            image_len: usize,
+            out: *mut u8,
+            out_len: usize,
+            written: *mut usize,
+        ) -> u8;
+
+        pub fn tsm_merge(
+            older: *const u8,
+            older_len: usize,
+            newer: *const u8,
+            newer_len: usize,
+            out: *mut u8,
+            out_len: usize,
+            written: *mut usize,
+        ) -> u8;
+    }
+}
+
+/// The library. Each call lends pointers and lengths of slices that live as long as the call, and
+/// pointers to single cells.
+pub struct Library;
+
+impl Acts for Library {
+    fn check(&self, image: &[u8], keys: &mut u64, points: &mut u64) -> u8 {
+        unsafe { c::tsm_check(image.as_ptr(), image.len(), keys, points) }
+    }
+
+    fn find(&self, query: Query, entry: EntryOut) -> u8 {
+        let Query { image, key, time } = query;
+        unsafe {
+            c::tsm_find(
+                image.as_ptr(),
+                image.len(),
+                key.as_ptr(),
+                key.len(),
+                time,
+                entry.kind,
+                entry.min,
+                entry.max,
+                entry.offset,
+                entry.size,
+            )
+        }
+    }
+
+    fn read_block(
+        &self,
+        query: Query,
+        times: &mut [i64],
+        values: &mut [i64],
+        entry: EntryOut,
+        count: &mut usize,
+    ) -> u8 {
+        let Query { image, key, time } = query;
+        unsafe {
+            c::tsm_read_block(
+                image.as_ptr(),
+                image.len(),
+                key.as_ptr(),
+                key.len(),
+                time,
+                times.as_mut_ptr(),
+                times.len(),
+                values.as_mut_ptr(),
+                values.len(),
+                entry.kind,
+                entry.min,
+                entry.max,
+                entry.offset,
+                entry.size,
+                count,
+            )
+        }
+    }
+
+    fn read_point(&self, query: Query, entry: EntryOut, value: &mut i64) -> u8 {
+        let Query { image, key, time } = query;
+        unsafe {
+            c::tsm_read_point(
+                image.as_ptr(),
+                image.len(),
+                key.as_ptr(),
+                key.len(),
+                time,
+                entry.kind,
+                entry.min,
+                entry.max,
+                entry.offset,
+                entry.size,
+                value,
+            )
+        }
+    }
+
+    fn write(&self, roll: &[u8], out: &mut [u8], written: &mut usize) -> u8 {
+        let (out, out_len) = (out.as_mut_ptr(), out.len());
+        unsafe { c::tsm_write(roll.as_ptr(), roll.len(), out, out_len, written) }
+    }
+
+    fn unroll(&self, image: &[u8], out: &mut [u8], written: &mut usize) -> u8 {
+        let (out, out_len) = (out.as_mut_ptr(), out.len());
+        unsafe { c::tsm_unroll(image.as_ptr(), image.len(), out, out_len, written) }
+    }
+
+    fn merge(&self, older: &[u8], newer: &[u8], out: &mut [u8], written: &mut usize) -> u8 {
+        unsafe {
+            c::tsm_merge(
+                older.as_ptr(),
+                older.len(),
+                newer.as_ptr(),
+                newer.len(),
+                out.as_mut_ptr(),
+                out.len(),
+                written,
+            )
+        }
+    }
+}
+
+/// Memory in which each lent slice lies against a page that may not be touched: a step over that
+/// end, by reading too, ends the test. Canaries stand at the other end. Where there is no `mmap`,
+/// it is ordinary memory with canaries.
+#[derive(Clone, Copy)]
+pub enum Guarded {
+    /// The guard comes after the slice.
+    After,
+    /// The guard comes before the slice.
+    Before,
+}
+
+impl Memory for Guarded {
+    fn bytes(&self) -> Box<dyn Lent<u8>> {
+        guarded_cells(*self)
+    }
+
+    fn numbers(&self) -> Box<dyn Lent<i64>> {
+        guarded_cells(*self)
+    }
+}
+
+#[cfg(not(target_os = "linux"))]
+fn guarded_cells<T: Cell + 'static>(_: Guarded) -> Box<dyn Lent<T>> {
+    Box::new(crate::lent::PaddedCells::default())
+}
+
+#[cfg(target_os = "linux")]
+fn guarded_cells<T: Cell + 'static>(guard: Guarded) -> Box<dyn Lent<T>> {
+    Box::new(pages::GuardedCells::new(guard))
+}
+
+#[cfg(target_os = "linux")]
+mod pages {
+    use std::ffi::{c_int, c_void};
+    use std::marker::PhantomData;
+    use std::{ptr, slice};
+
+    use super::Guarded;
+    use crate::lent::{fill, holds_pattern, Cell, Lent, MARGIN};
+
+    extern "C" {
+        fn mmap(
+            address: *mut c_void,
+            length: usize,
+            protection: c_int,
+            flags: c_int,
+            file: c_int,
+            offset: i64,
+        ) -> *mut c_void;
+        fn mprotect(address: *mut c_void, length: usize, protection: c_int) -> c_int;
+        fn munmap(address: *mut c_void, length: usize) -> c_int;
+    }
+
+    const PROT_NONE: c_int = 0;
+    const PROT_READ_WRITE: c_int = 1 | 2;
+    const MAP_PRIVATE_ANONYMOUS: c_int = 0x02 | 0x20;
+    const MAP_FAILED: *mut c_void = !0 as *mut c_void;
+
+    /// A multiple of every page size in use.
+    const GRAIN: usize = 65_536;
+
+    /// Pages that may be read and written, between two that may not be touched.
+    struct Pages {
+        base: *mut u8,
+        /// Bytes between the guards, a multiple of [`GRAIN`].
+        inner: usize,
+    }
+
+    impl Pages {
+        fn new(bytes: usize) -> Pages {
+            let inner = bytes.next_multiple_of(GRAIN);
+            // SAFETY: the mapping is new, so no other memory is touched; what is made accessible
+            // lies inside it.
+            unsafe {
+                let base = mmap(
+                    ptr::null_mut(),
+                    inner + 2 * GRAIN,
+                    PROT_NONE,
+                    MAP_PRIVATE_ANONYMOUS,
+                    -1,
+                    0,
+                );
+                assert_ne!(base, MAP_FAILED, "mmap gives memory");
+                let base = base.cast::<u8>();
+                let opened = mprotect(base.add(GRAIN).cast(), inner, PROT_READ_WRITE);
+                assert_eq!(opened, 0, "mprotect opens memory");
+                Pages { base, inner }
+            }
+        }
+
+        /// The first byte that may be touched.
+        fn start(&self) -> *mut u8 {
+            // SAFETY: the mapping is longer than the guard.
+            unsafe { self.base.add(GRAIN) }
+        }
+    }
+
+    impl Drop for Pages {
+        fn drop(&mut self) {
+            // SAFETY: this is the whole mapping, and no slice of it outlives its owner.
+            unsafe { munmap(self.base.cast(), self.inner + 2 * GRAIN) };
+        }
+    }
+
+    /// Cells of which the lent ones lie against a guard.
+    pub struct GuardedCells<T> {
+        guard: Guarded,
+        pages: Pages,
+        /// How many cells are lent.
+        length: usize,
+        cells: PhantomData<T>,
+    }
+
+    impl<T: Cell> GuardedCells<T> {
+        pub fn new(guard: Guarded) -> GuardedCells<T> {
+            GuardedCells {
+                guard,
+                pages: Pages::new(GRAIN),
+                length: 0,
+                cells: PhantomData,
+            }
+        }
+
+        /// The canaries and the lent cells, which lie end to end against the guard.
+        fn used(&self) -> *mut T {
+            let bytes = (self.length + MARGIN) * size_of::<T>();
+            match self.guard {
+                Guarded::Before => self.pages.start().cast(),
+                // SAFETY: the pages have at least that many bytes.
+                Guarded::After => unsafe {
+                    self.pages.start().add(self.pages.inner - bytes).cast()
+                },
+            }
+        }
+
+        /// Where the lent cells and where the canaries begin in the used cells.
+        fn ranks(&self) -> (usize, usize) {
+            match self.guard {
+                Guarded::Before => (0, self.length),
+                Guarded::After => (MARGIN, 0),
+            }
+        }
+    }
+
+    impl<T: Cell> Lent<T> for GuardedCells<T> {
+        fn lend(&mut self, length: usize) -> &mut [T] {
+            let bytes = (length + MARGIN) * size_of::<T>();
+            if bytes > self.pages.inner {
+                self.pages = Pages::new(bytes);
+            }
+            self.length = length;
+            let (lent, canaries) = self.ranks();
+            // SAFETY: the used cells lie in pages that `self` owns, aligned because the pages are,
+            // and mapped memory is initialised. The two slices do not overlap.
+            unsafe {
+                fill(slice::from_raw_parts_mut(self.used().add(canaries), MARGIN));
+                slice::from_raw_parts_mut(self.used().add(lent), length)
+            }
+        }
+
+        fn canaries_live(&self) -> bool {
+            let (_, canaries) = self.ranks();
+            // SAFETY: as in `lend`.
+            let canaries = unsafe { slice::from_raw_parts(self.used().add(canaries), MARGIN) };
+            holds_pattern(canaries, 0)
+        }
+    }
+}

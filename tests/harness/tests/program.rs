@@ -1,0 +1,178 @@
+//! Runs the program: a roll on standard input, its image or a refusal's number on standard output.
+//!
+//! The reference's program is run always, and the one that TSM_PROGRAM names.
+
+use std::io::Write;
+use std::path::{Path, PathBuf};
+use std::process::{Command, Stdio};
+use std::thread;
+use std::time::Duration;
+
+use tsm_harness::data::{self, shortened, unhex, Hex};
+use tsm_reference::program::BUFFER;
+use tsm_reference::varint;
+
+const BARE: &str = "16d116d1010000000000000005";
+const SHORT_OUTPUT: &[u8] = b"19\n";
+const BROKEN_ROLL: &[u8] = b"20\n";
+
+/// The programs to run.
+fn programs() -> Vec<PathBuf> {
+    let mut programs = vec![PathBuf::from(env!("CARGO_BIN_EXE_reference_program"))];
+    match std::env::var_os("TSM_PROGRAM") {
+        Some(program) => programs.push(PathBuf::from(program)),
+        None if cfg!(feature = "library") => panic!("TSM_PROGRAM names no program"),
+        None => println!("TSM_PROGRAM is not set: only the reference's program is run"),
+    }
+    programs
+}
+
+/// What the program writes when `roll` arrives in pieces of at most `piece` bytes.
+fn run(program: &Path, roll: &[u8], piece: usize) -> Vec<u8> {
+    let mut child = Command::new(program)
+        .stdin(Stdio::piped())
+        .stdout(Stdio::piped())
+        .stderr(Stdio::piped())
+        .spawn()
+        .unwrap_or_else(|error| panic!("{}: {error}", program.display()));
+    let mut input = child.stdin.take().expect("standard input is piped");
+    let output = thread::scope(|scope| {
+        scope.spawn(move || {
+            for (rank, part) in roll.chunks(piece).enumerate() {
+                if rank > 0 {
+                    // Long enough for the program to have read what came before.
+                    thread::sleep(Duration::from_millis(1));
+                }
+                // A program may stop reading once the roll is too long.
+                if input.write_all(part).is_err() {
+                    break;
+                }
+            }
+        });
+        child.wait_with_output().expect("the program ends")
+    });
+    assert!(output.stderr.is_empty(), "nothing on standard error");
+    output.stdout
+}
+
+/// Sees that the program writes `expected` for `roll`.
+fn expect(program: &Path, roll: &[u8], expected: &[u8]) {
+    expect_in_pieces(program, roll, roll.len().max(1), expected);
+}
+
+/// The same with a roll that arrives in pieces.
+fn expect_in_pieces(program: &Path, roll: &[u8], piece: usize, expected: &[u8]) {
+    let output = run(program, roll, piece);
+    assert!(
+        output == expected,
+        "{} writes {} bytes, {}, and not {} bytes, {}",
+        program.display(),
+        output.len(),
+        shortened(&Hex(&output).to_string()),
+        expected.len(),
+        shortened(&Hex(expected).to_string()),
+    );
+}
+
+#[test]
+fn conformance_cases() {
+    for program in programs() {
+        for case in data::cases("program") {
+            let roll = case.case.strip_prefix("program ").expect("a program case");
+            let output = case.answer.strip_prefix("stdout ").expect("an output");
+            println!("{}", case.name);
+            expect(&program, &unhex(roll), &unhex(output));
+        }
+    }
+}
+
+#[test]
+fn empty_input_is_the_bare_image() {
+    for program in programs() {
+        expect(&program, &[], &unhex(BARE));
+    }
+}
+
+#[test]
+fn a_roll_that_breaks_its_rules() {
+    for program in programs() {
+        expect(&program, &[0], BROKEN_ROLL);
+        expect(&program, &[1, b'a', 2, 3, 0, 1, 10, 0, 10, 2], BROKEN_ROLL);
+    }
+}
+
+#[test]
+fn a_roll_that_fills_the_buffer() {
+    let roll = regular_roll(BUFFER);
+    let image = image(&roll);
+    for program in programs() {
+        expect(&program, &roll, &image);
+    }
+}
+
+#[test]
+fn a_roll_longer_than_the_buffer() {
+    let one_more = regular_roll(BUFFER + 1);
+    let broken = vec![0; BUFFER + 1];
+    let far_longer = vec![0; 20 * BUFFER];
+    for program in programs() {
+        expect(&program, &one_more, SHORT_OUTPUT);
+        expect(&program, &broken, SHORT_OUTPUT);
+        expect(&program, &far_longer, SHORT_OUTPUT);
+    }
+}
+
+#[test]
+fn an_image_longer_than_the_buffer() {
+    let roll = many_keys_roll(2_000);
+    assert!(roll.len() < BUFFER);
+    for program in programs() {
+        expect(&program, &roll, SHORT_OUTPUT);
+    }
+}
+
+#[test]
+fn input_in_pieces() {
+    let small = [1, b'a', 2, 3, 0, 1, 10, 0, 10, 0];
+    let full = regular_roll(BUFFER);
+    let too_long = regular_roll(BUFFER + 1);
+    for program in programs() {
+        expect_in_pieces(&program, &small, 1, &image(&small));
+        expect_in_pieces(&program, &full, 4_097, &image(&full));
+        expect_in_pieces(&program, &too_long, 4_096, SHORT_OUTPUT);
+    }
+}
+
+/// The reference's image of a good roll.
+fn image(roll: &[u8]) -> Vec<u8> {
+    let mut image = vec![0; BUFFER];
+    let length = tsm_reference::write(roll, &mut image).expect("a good roll");
+    image.truncate(length);
+    image
+}
+
+/// A good roll of exactly `length` bytes: one key with a point for each two bytes.
+fn regular_roll(length: usize) -> Vec<u8> {
+    // The key takes the byte that is left over.
+    let mut roll = match length % 2 {
+        0 => vec![1, b'a', 1],
+        _ => vec![2, b'a', b'b', 1],
+    };
+    // The count takes three bytes.
+    let points = (length - roll.len() - 3) / 2;
+    varint::append(points as u64, &mut roll);
+    for point in 0..points {
+        roll.extend([u8::from(point > 0), (point % 3) as u8]);
+    }
+    assert_eq!(roll.len(), length);
+    roll
+}
+
+/// A good roll of keys with one point each.
+fn many_keys_roll(keys: u16) -> Vec<u8> {
+    let key = |number: u16| {
+        let [high, low] = number.to_be_bytes();
+        [2, high, low, 2, 1, 0, 1]
+    };
+    (0..keys).flat_map(key).collect()
+}
