@@ -1,7 +1,7 @@
 -- The steps of a pass within a key: what each asks holds, and after it what the next asks.
 --   past-key                                  a place of the open key is past every image
 --   push-fits, push-filling, push-same        a point is added
---   end-fits, end-count, end-room, end-same   the key is closed
+--   end-fits, count-fits, count-room, end-same   the key is closed
 use Prim.Native.Nat.{ℕ, _+_, _≤_, _<_}
 use mathlib.Core.Path.{_≡_, refl, sym, subst, ap, _∙_}
 use mathlib.Core.Bool.{Bool, true, false}
@@ -21,7 +21,8 @@ use Rattle.section_laws.proofs.BlockLengths.{blockBytes-most}
 use Rattle.block_writer.specs.Filled.{filled, BlockFits}
 use Rattle.builder.specs.declared.Places.{Places}
 use Rattle.builder.specs.Open.{entriesLeft}
-use Rattle.builder.specs.Steps.{Room, FlushFits, PushFits, EndFits, CountFits, KeyFits, Closed, keyEnd, fuller, stays, fillPlaces, flushPlaces, flushBytes, pushPlaces, pushBytes, pushFill, endPlaces, endBytes}
+use Rattle.numbers.specs.Laying.{Room}
+use Rattle.builder.specs.Steps.{FlushFits, PushFits, EndFits, CountFits, KeyFits, Closed, keyEnd, fuller, stays, fillPlaces, flushPlaces, flushBytes, pushPlaces, pushBytes, pushFill, endPlaces, endBytes}
 use Rattle.builder.proofs.Lefts.{Ends, ends-full, ends-last, pushed-blocks, pushed-entries}
 use Rattle.builder.proofs.Fills.{points-more, push-stays, push-flushes}
 use Rattle.builder.proofs.Futures.{end-future}
@@ -224,15 +225,15 @@ module _ (laying : Bool) (kind : Kind) (s : Places) (times : List ℤ) (values o
   pub end-fits : EndFits laying kind times values s out
   end-fits = record { places-fit = h .key .places-fit; block-fits = last-fits; flush-fits = last-room }
 
-  pub end-count : CountFits laying (s .blocks + 1)
-  end-count = go laying refl
+  pub count-fits : CountFits laying (s .blocks + 1)
+  count-fits = go laying refl
     where
       go : (b : Bool) → laying ≡ b → CountFits b (s .blocks + 1)
       go true l = omega (arith, h .key .counted, h .key .room l .most)
       go false l = tt
 
-  pub end-room : Room laying (s .count + 2) out
-  end-room = go laying refl
+  pub count-room : Room laying (s .count + 2) out
+  count-room = go laying refl
     where
       go : (b : Bool) → laying ≡ b → Room b (s .count + 2) out
       go true l = omega (arith, h .key .room l .fits .count, h .key .room l .fits .entries)

@@ -21,7 +21,8 @@ use Rattle.format.specs.WellFormed.{goodPoint, goodSeries}
 use Rattle.format.specs.Writer.{writerIndex}
 use Rattle.format.proofs.Splices.{splice-length, splice-nothing}
 use Rattle.builder.specs.declared.Places.{Places}
-use Rattle.builder.specs.Steps.{lay, Room, Closed, keyEnd, seriesEnd, headBytes, beginPlaces}
+use Rattle.numbers.specs.Laying.{lay, Room}
+use Rattle.builder.specs.Steps.{Closed, keyEnd, seriesEnd, headBytes, beginPlaces}
 use Rattle.builder.proofs.Futures.{closed-same}
 use Rattle.builder.proofs.Series.{begin-future, blocks-length, index-length, head-length, count-length}
 use Rattle.builder.specs.Passes.{Near, KeyRoom, KeyOpen, Filling, SeriesRoom, Past}

@@ -23,9 +23,10 @@ use Rattle.index.proofs.Steps.{on-entry, good-entry}
 use Rattle.index.proofs.Taken.{none-left, good-take, entry-past}
 use Rattle.block.proofs.Answers.{PointsAre}
 use Rattle.block.proofs.Bodies.{block-few}
-use Rattle.block.proofs.Cells.{points-back}
+use Rattle.format.proofs.Points.{points-back}
 use Rattle.feed.specs.declared.Feed.{Feed}
-use Rattle.feed.specs.Feeds.{indexPart, keyOf, entriesLeft, keysLeft, blocksLeft, seriesLeft, Stands, Kept, BlockOpened}
+use Rattle.index.specs.Frames.{indexPart}
+use Rattle.feed.specs.Feeds.{keyOf, entriesLeft, keysLeft, blocksLeft, seriesLeft, Stands, Kept, BlockOpened}
 use Rattle.feed.proofs.Readings.{BlocksRead, blocks-read, no-blocks}
 use Rattle.feed.proofs.Standing.{placed, starts}
 use Rattle.feed.proofs.Cells.{held-block}

@@ -20,7 +20,7 @@ use Rattle.format.specs.File.{readBlocks, readSeries, readFile}
 use Rattle.index.specs.declared.Cursor.{Cursor}
 use Rattle.index.specs.declared.Step.{Step}
 use Rattle.index.specs.declared.Frame.the-variants.{IndexAt, Refused}
-use Rattle.index.specs.Frames.{frameAt}
+use Rattle.index.specs.Frames.{frameAt, indexPart}
 use Rattle.index.specs.Cursors.{stepAt, firstCursor}
 use Rattle.index.proofs.Frames.{frame-start, frame-refused, index-refused}
 use Rattle.index.proofs.Rests.{keysOnly}
@@ -28,7 +28,7 @@ use Rattle.index.proofs.Walks.{keyWith}
 use Rattle.index.proofs.Steps.{on-key, image-sound, index-rest, good-key, good-end, never-refused}
 use Rattle.index.proofs.Taken.{entry-not}
 use Rattle.feed.specs.declared.Feed.{Feed}
-use Rattle.feed.specs.Feeds.{indexPart, keyOf, entriesLeft, keysLeft, held, seriesLeft, Stands, Done, Begun, KeyOpened}
+use Rattle.feed.specs.Feeds.{keyOf, entriesLeft, keysLeft, held, seriesLeft, Stands, Done, Begun, KeyOpened}
 use Rattle.feed.proofs.Readings.{series-read, no-series, file-index}
 use Rattle.feed.proofs.Standing.{placed}
 

@@ -12,7 +12,7 @@ use lib.ListN.{length, getD}
 use Rattle.format.specs.Limits.{readBlockMost}
 use Rattle.format.specs.Meaning.{Point, pointOf}
 use Rattle.feed.specs.declared.Feed.{Feed}
-use Rattle.feed.specs.Feeds.{keyOf, entriesLeft, keysLeft, blocksLeft, held, pointsLeft, seriesLeft, Stands, BlockOpened, advanced, PointTaken, BlockTaken}
+use Rattle.feed.specs.Feeds.{keyOf, entriesLeft, keysLeft, blocksLeft, pointsLeft, seriesLeft, Stands, BlockOpened, advanced, PointTaken, BlockTaken}
 use Rattle.feed.proofs.Cells.{held-none, held-next}
 
 -- the point of the decoded block at which a feed stands

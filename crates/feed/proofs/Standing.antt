@@ -13,7 +13,8 @@ use Rattle.format.specs.File.{indexStart, checkFrame, readBlocks, readSeries}
 use Rattle.index.specs.Cursors.{Sound}
 use Rattle.index.proofs.Frames.{IndexStartsAt, Framed, frame-fits}
 use Rattle.feed.specs.declared.Feed.{Feed}
-use Rattle.feed.specs.Feeds.{readOr, indexPart, indexLeft, entriesLeft, keysLeft, blocksLeft, seriesLeft, Stands}
+use Rattle.feed.specs.Feeds.{readOr, indexLeft, entriesLeft, keysLeft, blocksLeft, seriesLeft, Stands}
+use Rattle.index.specs.Frames.{indexPart}
 
 -- the entries es and the keys ks are left in the index, and the points ps and the series m in them
 pub record Placed (image : List ℕ) (f : Feed) (es : List Entry) (ks : List IndexKey) (ps : List Point) (m : Meaning) : Type 0 where

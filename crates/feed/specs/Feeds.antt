@@ -1,6 +1,5 @@
 -- What is still to come of an accepted image, from where a feed stands: a plain reading, without tests. It is what `readFile` reads where a
 -- feed stands well.
---   indexPart      the index of an image, which starts at a place
 --   keyOf          the open key
 --   entriesLeft, keysLeft   the entries of the open key, and the keys after it
 --   blocksLeft     the points of the open key that are not decoded yet
@@ -15,9 +14,9 @@ use Prim.Native.Nat.{ℕ, _+_, _-_, _≤_, _<_}
 use mathlib.Core.Path.{_≡_}
 use mathlib.Core.List.{List, [], _∷_, _++_}
 use lib.IntN.{ℤ}
-use lib.ListN.{length, take, drop}
+use lib.ListN.{take, drop}
 use Rattle.format.specs.declared.Entry.{Entry}
-use Rattle.format.specs.Limits.{readBlockMost, footerSize}
+use Rattle.format.specs.Limits.{readBlockMost}
 use Rattle.format.specs.Refusals.{Result, ok, refused}
 use Rattle.format.specs.Meaning.{Point, pointOf, Series, Meaning}
 use Rattle.format.specs.Block.{pointsFrom}
@@ -28,15 +27,12 @@ use Rattle.feed.specs.declared.Feed.{Feed}
 use Rattle.feed.specs.declared.NextKey.{NextKey}
 use Rattle.feed.specs.declared.NextBlock.{NextBlock}
 use Rattle.feed.specs.declared.NextPoint.{NextPoint}
+use Rattle.index.specs.Frames.{indexPart}
 
 -- what is read, or another value where it is refused
 abbrev pub readOr : {A : Type 0} → A → Result A → A
 readOr other (ok v) = v
 readOr other (refused r place) = other
-
--- the index of an image, which starts at a place
-abbrev pub indexPart : List ℕ → (start : ℕ) → List ℕ
-indexPart image start = take (length image - footerSize - start) (drop start image)
 
 -- the open key
 unfoldable pub keyOf : List ℕ → Feed → List ℕ

@@ -16,7 +16,8 @@ ghost use Rattle.format.specs.Block.{readBlock};
 ghost use Rattle.format.specs.File.{blockOf, accepted};
 ghost use Rattle.block.specs.declared.BlockPoints.{BlockPoints};
 ghost use Rattle.block.specs.Answers.{blockAnswer, PointsLaid};
-ghost use Rattle.feed.specs.Feeds.{indexPart, keyOf, blocksLeft, Stands, Done, Begun, OnKey, OnBlock, OnPoint};
+ghost use Rattle.index.specs.Frames.{indexPart};
+ghost use Rattle.feed.specs.Feeds.{keyOf, blocksLeft, Stands, Done, Begun, OnKey, OnBlock, OnPoint};
 
 // Where a feed stands in an image.
 pub struct Feed {

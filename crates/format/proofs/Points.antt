@@ -1,15 +1,17 @@
 -- Points from times and values, one by one.
 --   points-times, points-values, points-length   the parts of points, and how many
 --   points-again                                 points from their own times and values
+--   points-back                                  points from the first n cells that hold their times and values
 --   time-good                                    the time of a good point is a signed 64-bit number
 use Prim.Native.Nat.{ℕ, suc, _^_, _<_}
-use mathlib.Core.Path.{_≡_, refl, ap}
+use mathlib.Core.Path.{_≡_, refl, ap, _∙_}
 use mathlib.Core.Bool.{true, _&&_}
 use mathlib.Core.List.{List, [], _∷_, map}
 use native.Mathlib.Omega.{arith}
 use lib.IntN.{ℤ}
 use lib.Signed.{leZ, mag}
-use lib.ListN.{length}
+use lib.ListN.{length, take, drop, length-map}
+use lib.Seq.{take-at}
 use Rattle.format.specs.Meaning.{Point}
 use Rattle.format.specs.declared.Kind.{Kind}
 use Rattle.format.specs.Limits.{timeLeast, timeMost}
@@ -17,6 +19,7 @@ use Rattle.format.specs.Block.{pointsFrom}
 use Rattle.format.specs.WellFormed.{goodValue, goodPoint}
 use Rattle.format.proofs.Tests.{both-left}
 use Rattle.format.proofs.Orders.{time-fits}
+use Rattle.format.specs.Bytes.{overwrite}
 
 pub points-times : (ts : List ℤ) (vs : List ℕ) → length vs ≡ length ts → map (λ p. p .time) (pointsFrom ts vs) ≡ ts
 points-times [] vs e = refl
@@ -40,3 +43,15 @@ points-again (p ∷ ps) = ap (λ (l : List Point). p ∷ l) (points-again ps)
 
 pub time-good : (kind : Kind) (p : Point) → goodPoint kind p ≡ true → mag (p .time) < 2 ^ 63
 time-good kind p good = time-fits (p .time) (both-left (leZ timeLeast (p .time) && leZ (p .time) timeMost) (goodValue kind (p .value)) good)
+
+pub points-back : (ps : List Point) (n : ℕ) (oldTimes newTimes : List ℤ) (oldValues newValues : List ℕ) → length ps ≡ n
+    → newTimes ≡ overwrite (map (λ p. p .time) ps) oldTimes → newValues ≡ overwrite (map (λ p. p .value) ps) oldValues
+    → pointsFrom (take n newTimes) (take n newValues) ≡ ps
+points-back ps n oldTimes newTimes oldValues newValues count times values =
+    rw (
+      times,
+      values,
+      take-at (map (λ p. p .time) ps) (drop (length (map (λ p. p .time) ps)) oldTimes) n (length-map ps (λ p. p .time) ∙ count),
+      take-at (map (λ p. p .value) ps) (drop (length (map (λ p. p .value) ps)) oldValues) n (length-map ps (λ p. p .value) ∙ count),
+    )
+    (points-again ps)

@@ -1,8 +1,8 @@
 -- The test that gives a pass up, and the answer to the length of an image.
---   past-block, past-entry   the test, by its parts
---   past-both, past-neither             what it says
+--   past-block, past-entry                   the test, by its parts
+--   past-both, past-neither                  what it says
 --   judged-long, judged-short, judged-fits   the answer, by its tests
---   Answers, judged-answers             it is the answer of the acts, with what becomes of the buffer
+--   Answers, judged-answers                  it is the answer of the acts, with what becomes of the buffer
 use Prim.Native.Nat.{ℕ, _≤_, _<_}
 use mathlib.Core.Path.{_≡_, refl, sym, ap, _∙_}
 use mathlib.Core.Logic.{⊎-elim}

@@ -4,6 +4,7 @@
 --   Points   adding all points of a key
 --   Series   adding a series
 --   Passes   a pass over all series
+--   Laying   the two passes over any meaning, judged between them
 --   Writes   the act
 --   Responses   what the program writes
 pub mod Judges
@@ -11,5 +12,6 @@ pub mod Adds
 pub mod Points
 pub mod Series
 pub mod Passes
+pub mod Laying
 pub mod Writes
 pub mod Responses

@@ -16,7 +16,7 @@ use Rattle.index.specs.Cursors.{stepAt, Sound}
 use Rattle.index.proofs.Step.{the-type}
 use Rattle.block.proofs.Answers.{answer-points}
 use Rattle.feed.specs.declared.Feed.{Feed}
-use Rattle.feed.specs.Feeds.{indexPart}
+use Rattle.index.specs.Frames.{indexPart}
 use Rattle.feed.proofs.Standing.{starts}
 use Rattle.feed.proofs.Blocks.{no-block, block-step, block-known, block-opened}
 use Rattle.feed.proofs.next_block.Statement.{statement}

@@ -7,7 +7,7 @@ use native.Mathlib.Omega.{arith}
 use Rattle.index.specs.declared.Step.{Step}
 use Rattle.index.specs.Cursors.{stepAt, Sound}
 use Rattle.feed.specs.declared.Feed.{Feed}
-use Rattle.feed.specs.Feeds.{indexPart}
+use Rattle.index.specs.Frames.{indexPart}
 use Rattle.feed.proofs.Standing.{starts}
 use Rattle.feed.proofs.Keys.{key-opened, no-key, key-not-entry, not-refused}
 use Rattle.feed.proofs.next_key.Statement.{statement}

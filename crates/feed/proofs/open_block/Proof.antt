@@ -1,21 +1,17 @@
 -- `open_block` meets its contract: the part of the image is the block of the entry.
 use borrow.Author.Needs.{needs}
-use Prim.Native.Nat.{ℕ, _+_, _-_}
+use Prim.Native.Nat.{ℕ, _-_}
 use mathlib.Core.Path.{_≡_, ap, sym, subst, _∙_}
 use mathlib.Core.Bool.{true}
 use mathlib.Core.List.{List}
 use native.Mathlib.Omega.{arith}
-use lib.ListN.{take, drop, length-take, length-drop}
-use Rattle.format.specs.declared.Entry.{Entry}
+use lib.ListN.{length-take, length-drop}
 use Rattle.format.specs.Refusals.{isOk}
 use Rattle.format.specs.Block.{readBlock}
-use Rattle.format.specs.File.{blockOf}
 use Rattle.block.specs.Answers.{blockAnswer, PointsLaid}
+use Rattle.format.proofs.Lists.{part-lent}
 use Rattle.feed.proofs.open_block.Statement.{statement}
 use Rattle.feed.proofs.open_block.Tie as tie
-
-block-part : (image : List ℕ) (e : Entry) → take (e .offset .0 + e .size - e .offset .0) (drop (e .offset .0) image) ≡ blockOf image e
-block-part image e = let size : e .offset .0 + e .size - e .offset .0 ≡ e .size = omega arith in rw size
 
 cast-end : tie.Need-cast-end
 cast-end c = search needs
@@ -35,7 +31,7 @@ part-read-good-end c = search needs
 read-good-requires : tie.Need-read-good-requires
 read-good-requires c κs =
     let p = c .before .before .before .before .before .before .before in
-    let same = block-part (p .args .image .now) (p .args .entry) in (
+    let same = part-lent (p .args .image .now) (p .args .entry .offset .0) (p .args .entry .size) in (
       subst (λ (l : List ℕ). isOk (readBlock (p .args .entry) l) ≡ true) (sym same) (p .pre .0),
       simp (length-take, length-drop) (omega (arith, p .pre .1, p .pre .2)),
       search needs,
@@ -52,7 +48,7 @@ returns : tie.Need-returns
 returns c =
     let a = c .before .before .before .before .before .before .before .before .before .before .before .args in
     let called = c .before .before .before .read-good in
-    let same = block-part (a .image .now) (a .entry) in (
+    let same = part-lent (a .image .now) (a .entry .offset .0) (a .entry .size) in (
       called .ensures .0 ∙ ap (λ (l : List ℕ). blockAnswer (readBlock (a .entry) l)) same,
       subst (λ (l : List ℕ). PointsLaid (readBlock (a .entry) l) (a .times .now) (called .last .1 .1 .0) (a .values .now) (called .last .1 .1 .1 .0)) same (called .ensures .1),
     )
