@@ -15,9 +15,10 @@
 //! # Ok::<(), Box<dyn std::error::Error>>(())
 //! ```
 #![deny(missing_docs)]
-#![deny(unsafe_op_in_unsafe_fn)]
+#![deny(unsafe_code)]
 
 mod error;
+#[allow(unsafe_code)]
 mod sys;
 
 pub use error::Error;
@@ -224,4 +225,38 @@ pub fn read_block_into(
 pub fn read_point(image: &[u8], key: &[u8], time: i64) -> Result<PointRead, Error> {
     let (entry, value) = sys::read_point(image, key, time)?;
     Ok(PointRead { entry, value })
+}
+
+#[cfg(test)]
+mod tests {
+    use super::*;
+
+    /// The C header names the same limits, kinds and errors, with the same numbers and sentences.
+    #[test]
+    fn header_says_the_same() {
+        let header = include_str!("../../../include/tsm.h");
+        let has = |line: String| assert!(header.contains(&line), "not in tsm.h: {line}");
+        has(format!("#define TSM_IMAGE_LEAST {IMAGE_LEAST}\n"));
+        has(format!("#define TSM_IMAGE_MOST {IMAGE_MOST}\n"));
+        has(format!("#define TSM_KEY_MOST {KEY_MOST}\n"));
+        has(format!("#define TSM_BLOCK_MOST {BLOCK_MOST}\n"));
+        has(format!("TSM_INTEGER = {},", Kind::Integer.byte()));
+        has(format!("TSM_BOOLEAN = {}\n", Kind::Boolean.byte()));
+        for error in Error::ALL {
+            has(format!("{} = {}", constant(error.name()), error.number()));
+            has(format!(" /* {} */", error.sentence()));
+        }
+    }
+
+    /// The name of a constant of the C header: TSM_NO_POINT of NoPoint.
+    fn constant(name: &str) -> String {
+        let mut constant = String::from("TSM");
+        for letter in name.chars() {
+            if letter.is_uppercase() {
+                constant.push('_');
+            }
+            constant.push(letter.to_ascii_uppercase());
+        }
+        constant
+    }
 }
