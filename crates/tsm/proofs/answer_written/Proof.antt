@@ -1,0 +1,23 @@
+-- `answer_written` meets its contract: the case of the answer says what is given.
+use mathlib.Core.Path.{refl}
+use borrow.Author.Needs.{needs}
+use Rattle.tsm.proofs.answer_written.Statement.{statement}
+use Rattle.tsm.proofs.answer_written.Tie as tie
+
+enum-known-answer : tie.Need-enum-known-answer
+enum-known-answer c = search needs
+
+enum-known-answer-2 : tie.Need-enum-known-answer-2
+enum-known-answer-2 c = search needs
+
+number-requires : tie.Need-number-requires
+number-requires c κs = search needs
+
+returns : tie.Need-returns
+returns c = rw (c .before .answer .given .1) (refl, refl)
+
+returns-2 : tie.Need-returns-2
+returns-2 c = rw (c .before .before .answer2 .given .1) (c .number .ensures, refl)
+
+pub answer-written-spec : {M : Type 1} → statement M
+answer-written-spec = tie.close (tie.spec enum-known-answer enum-known-answer-2 number-requires returns returns-2)

@@ -1,0 +1,22 @@
+-- `put_entry` meets its contract: each out parameter gets its part of the entry.
+use mathlib.Core.Path.{refl}
+use native.Mathlib.Omega.{arith}
+use mir.Syntax.{w64}
+use mir.Val.{SFits}
+use mir.ValLaws.{toZ-ofZ}
+use borrow.Author.Needs.{needs}
+use Rattle.tsm.proofs.put_entry.Statement.{statement}
+use Rattle.tsm.proofs.put_entry.Tie as tie
+
+byte-requires : tie.Need-byte-requires
+byte-requires c κs = search needs
+
+returns : tie.Need-returns
+returns c =
+    let e = c .before .before .before .before .args .entry in
+    let min : SFits w64 (e .min) = omega (arith, c .before .before .struct-told2 .given) in
+    let max : SFits w64 (e .max) = omega (arith, c .before .before .struct-told2 .given) in
+    (c .byte .ensures, (toZ-ofZ w64 (e .min) min, (toZ-ofZ w64 (e .max) max, (refl, refl))))
+
+pub put-entry-spec : {M : Type 1} → statement M
+put-entry-spec = tie.close (tie.spec byte-requires returns)

@@ -1,0 +1,98 @@
+/* TSM files: check an image, find an entry, read a block or a point.
+ *
+ * An image is the whole of a TSM file, as bytes in memory. A key is a byte string. Times and values are signed 64-bit
+ * numbers; the value of a boolean point is 0 or 1.
+ *
+ * Each function returns TSM_OK, or the number of the one refusal that applies (enum tsm_answer). A refusal leaves every
+ * out parameter and every lent buffer as it was. A success writes every out parameter; cells of a buffer past the
+ * result are left as they were. Each function is proved to do so for all arguments that keep these rules:
+ *
+ * - A length counts elements, and the pointer before it points to that many that may be read (or written, for an
+ *   output). With length 0 the pointer is never followed, and may be null.
+ * - An out parameter that is not a buffer is never null.
+ * - An output overlaps no other argument. Inputs may overlap.
+ * - Nothing else writes to an argument while the function runs.
+ *
+ * The functions use no heap and keep no state: several threads may call them at the same time. */
+#ifndef TSM_H
+#define TSM_H
+
+#include <stddef.h>
+#include <stdint.h>
+
+#ifdef __cplusplus
+extern "C" {
+#endif
+
+/* Bytes of an image, at least and at most. */
+#define TSM_IMAGE_LEAST 13
+#define TSM_IMAGE_MOST 1048576
+
+/* Bytes of a key, at most; at least 1. */
+#define TSM_KEY_MOST 1024
+
+/* Points of a block, at most: buffers of this length are long enough for tsm_read_block. */
+#define TSM_BLOCK_MOST 1000
+
+/* What the values of a key are. */
+enum tsm_kind {
+    TSM_INTEGER = 1,
+    TSM_BOOLEAN = 2
+};
+
+/* What a function returns: success, or why it refuses. */
+enum tsm_answer {
+    TSM_OK = 0,
+    TSM_IMAGE_LENGTH = 1,     /* the image is shorter than 13 bytes or longer than 1,048,576 */
+    TSM_MAGIC = 2,            /* the image does not start with 16 D1 16 D1 */
+    TSM_VERSION = 3,          /* the version is not 1 */
+    TSM_INDEX_START = 4,      /* the start of the index lies outside the image */
+    TSM_ENTRY_PAST_INDEX = 5, /* an index entry runs past the end of the index */
+    TSM_KEY_LENGTH = 6,       /* a key is empty or longer than 1,024 bytes */
+    TSM_UNKNOWN_KIND = 7,     /* the kind of a key is neither integer nor boolean */
+    TSM_NO_BLOCKS = 8,        /* a key has no blocks */
+    TSM_KEY_ORDER = 9,        /* a key is not above the key before it */
+    TSM_TIME_ORDER = 10,      /* the times of an index entry are not in order */
+    TSM_BLOCK_PLACE = 11,     /* a block does not lie where the one before it ends, or the last not up to the index */
+    TSM_CHECKSUM = 12,        /* the checksum of a block is wrong */
+    TSM_BLOCK_HEAD = 13,      /* the head of a block is malformed, or a section of it is empty */
+    TSM_TIMESTAMPS = 14,      /* the timestamps of a block are malformed */
+    TSM_VALUES = 15,          /* the values of a block are malformed, or not as many as its timestamps */
+    TSM_TIMES_DIFFER = 16,    /* the first or last time of a block is not the one in the index */
+    TSM_NO_SUCH_KEY = 17,     /* the image has no such key */
+    TSM_NO_ENTRY = 18,        /* the key has no block that covers the time */
+    TSM_SHORT_BUFFER = 19,    /* a lent buffer is too short for the whole result */
+    TSM_BAD_ROLL = 20,        /* the roll is malformed */
+    TSM_KIND_CLASH = 21,      /* a key has different kinds in the two images */
+    TSM_IMAGE_TOO_LONG = 22,  /* the written image would be longer than 1,048,576 bytes */
+    TSM_NO_POINT = 23         /* the key has no point at exactly this time */
+};
+
+/* Checks an image in full, every block included, and counts its keys and points.
+ * Refusals: 1 to 16. */
+uint8_t tsm_check(const uint8_t *image, size_t image_len, uint64_t *keys, uint64_t *points);
+
+/* Finds the index entry whose block covers a time of a key: its kind (enum tsm_kind), its first and last time, and
+ * where the block stands in the image and how many bytes it has, its checksum included. The whole index is checked;
+ * no block is read.
+ * Refusals: 1 to 11, 17, 18. */
+uint8_t tsm_find(const uint8_t *image, size_t image_len, const uint8_t *key, size_t key_len, int64_t time,
+                 uint8_t *kind, int64_t *min, int64_t *max, uint64_t *offset, uint32_t *size);
+
+/* Reads the block that covers a time of a key: finds its entry as tsm_find does, checks the block, and writes its
+ * points to the first *count cells of times and of values.
+ * Refusals: 1 to 11, 17, 18, 12 to 16, 19. */
+uint8_t tsm_read_block(const uint8_t *image, size_t image_len, const uint8_t *key, size_t key_len, int64_t time,
+                       int64_t *times, size_t times_len, int64_t *values, size_t values_len,
+                       uint8_t *kind, int64_t *min, int64_t *max, uint64_t *offset, uint32_t *size, size_t *count);
+
+/* Reads the value of a key at exactly a time: finds its entry as tsm_find does, checks the block, and writes the value.
+ * Refusals: 1 to 11, 17, 18, 12 to 16, 23. */
+uint8_t tsm_read_point(const uint8_t *image, size_t image_len, const uint8_t *key, size_t key_len, int64_t time,
+                       uint8_t *kind, int64_t *min, int64_t *max, uint64_t *offset, uint32_t *size, int64_t *value);
+
+#ifdef __cplusplus
+}
+#endif
+
+#endif
