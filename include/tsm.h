@@ -1,7 +1,7 @@
-/* TSM files: check an image, find an entry, read a block or a point.
+/* TSM files: check an image, find an entry, read a block or a point, write and unroll images.
  *
- * An image is the whole of a TSM file, as bytes in memory. A key is a byte string. Times and values are signed 64-bit
- * numbers; the value of a boolean point is 0 or 1.
+ * An image is the whole of a TSM file, as bytes in memory; a roll is the plain list of its series. A key is a byte
+ * string. Times and values are signed 64-bit numbers; the value of a boolean point is 0 or 1.
  *
  * Each function returns TSM_OK, or the number of the one refusal that applies (enum tsm_answer). A refusal leaves every
  * out parameter and every lent buffer as it was. A success writes every out parameter; cells of a buffer past the
@@ -90,6 +90,15 @@ uint8_t tsm_read_block(const uint8_t *image, size_t image_len, const uint8_t *ke
  * Refusals: 1 to 11, 17, 18, 12 to 16, 23. */
 uint8_t tsm_read_point(const uint8_t *image, size_t image_len, const uint8_t *key, size_t key_len, int64_t time,
                        uint8_t *kind, int64_t *min, int64_t *max, uint64_t *offset, uint32_t *size, int64_t *value);
+
+/* Writes a roll as an image to the first *written bytes of out. A buffer of TSM_IMAGE_MOST bytes is long enough.
+ * Refusals: 20, 22, 19. */
+uint8_t tsm_write(const uint8_t *roll, size_t roll_len, uint8_t *out, size_t out_len, size_t *written);
+
+/* Checks an image in full, and writes it as a roll to the first *written bytes of out. A roll may be longer than its
+ * image.
+ * Refusals: 1 to 16, 19. */
+uint8_t tsm_unroll(const uint8_t *image, size_t image_len, uint8_t *out, size_t out_len, size_t *written);
 
 #ifdef __cplusplus
 }

@@ -131,7 +131,7 @@ static Bytes resealed(size_t at, uint8_t byte)
 
 /* ---- calls, each with canaries and with a pattern in what it may write */
 
-enum { CANARY = 0x5A, MARGIN = 4, CELLS = 16 };
+enum { CANARY = 0x5A, MARGIN = 4, CELLS = 16, BYTES = 200 };
 
 /* The out parameters, with room that must stay between them. */
 typedef struct {
@@ -144,8 +144,10 @@ typedef struct {
     int64_t value, room6;
     uint64_t keys, room7;
     uint64_t points, room8;
+    size_t written, room9;
     int64_t times_before[MARGIN], times[CELLS + MARGIN];
     int64_t values_before[MARGIN], values[CELLS + MARGIN];
+    uint8_t out_before[8], out[BYTES + 8];
 } Outs;
 
 static Outs untouched(void)
@@ -220,7 +222,38 @@ static uint8_t read_point(Bytes image, Bytes key, int64_t time, Outs *o)
     return answer;
 }
 
+static uint8_t write_roll(Bytes roll, size_t out_len, Outs *o)
+{
+    uint8_t *lent = exactly(roll.bytes, roll.len);
+    *o = untouched();
+    uint8_t answer = tsm_write(lent, roll.len, out_len ? o->out : NULL, out_len, &o->written);
+    EXPECT(roll.len == 0 || memcmp(lent, roll.bytes, roll.len) == 0);
+    free(lent);
+    return answer;
+}
+
+static uint8_t unroll(Bytes image, size_t out_len, Outs *o)
+{
+    uint8_t *lent = exactly(image.bytes, image.len);
+    *o = untouched();
+    uint8_t answer = tsm_unroll(lent, image.len, out_len ? o->out : NULL, out_len, &o->written);
+    EXPECT(image.len == 0 || memcmp(lent, image.bytes, image.len) == 0);
+    free(lent);
+    return answer;
+}
+
 /* ---- what is expected */
+
+/* These bytes were written, and nothing past them. */
+static bool wrote(Outs o, Bytes expected)
+{
+    Outs fresh = untouched();
+    if (o.written != expected.len || memcmp(o.out, expected.bytes, expected.len) != 0)
+        return false;
+    o.written = fresh.written;
+    memcpy(o.out, fresh.out, expected.len);
+    return kept(&o);
+}
 
 /* All four acts refuse an image, and write nothing. */
 static void all_refuse(const char *what, Bytes image, uint8_t number)
@@ -379,8 +412,45 @@ static void questions(void)
     EXPECT(o.kind == TSM_BOOLEAN && o.min == 0 && o.max == 20 && o.offset == 5 && o.size == 20 && entry_alone(&o));
 }
 
+/* A roll and its image: each is written as the other, in a buffer of just its length and in a longer one. */
+static void written_as(const char *what, Bytes roll, Bytes image)
+{
+    Outs o;
+    about = what;
+    EXPECT(write_roll(roll, image.len, &o) == TSM_OK && wrote(o, image));
+    EXPECT(write_roll(roll, BYTES, &o) == TSM_OK && wrote(o, image));
+    EXPECT(write_roll(roll, image.len - 1, &o) == TSM_SHORT_BUFFER && kept(&o));
+    EXPECT(unroll(image, roll.len, &o) == TSM_OK && wrote(o, roll));
+    EXPECT(unroll(image, BYTES, &o) == TSM_OK && wrote(o, roll));
+    EXPECT(roll.len == 0 || (unroll(image, roll.len - 1, &o) == TSM_SHORT_BUFFER && kept(&o)));
+}
+
+static void rolls(void)
+{
+    Outs o;
+    Bytes bare = hex("16 D1 16 D1 01 00 00 00 00 00 00 00 05"), none = {.len = 0};
+    written_as("the empty roll", none, bare);
+    written_as("true, false, false", hex("01 61 02 03 00 01 0A 00 0A 00"), sample());
+    written_as("7 at -5", hex("01 61 01 01 09 0E"),
+               image_of(TSM_INTEGER, "1C FF FF FF FF FF FF FF FB", "10 00 00 00 00 00 00 00 0E", -5, -5));
+
+    about = "bad rolls";
+    EXPECT(write_roll(hex("00"), BYTES, &o) == TSM_BAD_ROLL && kept(&o));
+    EXPECT(write_roll(hex("01 61 03 01 00 00"), BYTES, &o) == TSM_BAD_ROLL && kept(&o));
+    EXPECT(write_roll(hex("01 61 02 02 00 01 00 01"), BYTES, &o) == TSM_BAD_ROLL && kept(&o));
+    EXPECT(write_roll(hex("01 61 02 01 80 00 01"), BYTES, &o) == TSM_BAD_ROLL && kept(&o));
+    EXPECT(write_roll(hex("01 61 02 01 00 02"), 0, &o) == TSM_BAD_ROLL && kept(&o));
+    EXPECT(write_roll(hex("01 61 02 01 00 01 00"), BYTES, &o) == TSM_BAD_ROLL && kept(&o));
+
+    about = "unroll refuses what check refuses";
+    EXPECT(unroll(none, BYTES, &o) == TSM_IMAGE_LENGTH && kept(&o));
+    EXPECT(unroll(changed(24, 0xC0), BYTES, &o) == TSM_CHECKSUM && kept(&o));
+    EXPECT(unroll(changed(46, 30), 0, &o) == TSM_TIMES_DIFFER && kept(&o));
+}
+
 int main(void)
 {
+    rolls();
     worked_pieces();
     bare_image();
     damage();

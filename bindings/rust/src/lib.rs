@@ -1,6 +1,6 @@
-//! TSM files: check an image, find an entry, read a block or a point.
+//! TSM files: check an image, find an entry, read a block or a point, write and unroll images.
 //!
-//! An image is the whole of a TSM file, as bytes. The work is done by the proved static library `libtsm.a`; this crate
+//! An image is the whole of a TSM file, as bytes; a roll is the plain list of its series. The work is done by the proved static library `libtsm.a`; this crate
 //! gives it Rust's types. It uses only the standard library. The directory of `libtsm.a` is `TSM_LIB_DIR` when the crate
 //! is built, or `target/staticlib` of the repository.
 //!
@@ -225,6 +225,75 @@ pub fn read_block_into(
 pub fn read_point(image: &[u8], key: &[u8], time: i64) -> Result<PointRead, Error> {
     let (entry, value) = sys::read_point(image, key, time)?;
     Ok(PointRead { entry, value })
+}
+
+/// Writes a roll as an image.
+///
+/// # Errors
+///
+/// [`Error::BadRoll`], [`Error::ImageTooLong`].
+///
+/// ```
+/// let image = tsm::write(&std::fs::read("../../examples/booleans.roll")?)?;
+/// assert_eq!(image, std::fs::read("../../examples/booleans.tsm")?);
+/// # Ok::<(), Box<dyn std::error::Error>>(())
+/// ```
+pub fn write(roll: &[u8]) -> Result<Vec<u8>, Error> {
+    grown(IMAGE_MOST, |out| write_into(roll, out))
+}
+
+/// Writes a roll as an image into the front of a slice, and gives the number of its bytes. Bytes past the image are left
+/// as they were; an error leaves all.
+///
+/// # Errors
+///
+/// Those of [`write`], then [`Error::ShortBuffer`]. A slice of [`IMAGE_MOST`] bytes is always long enough.
+pub fn write_into(roll: &[u8], out: &mut [u8]) -> Result<usize, Error> {
+    sys::write(roll, out)
+}
+
+/// Writes an image as a roll, after its full check.
+///
+/// # Errors
+///
+/// Those of [`check`].
+///
+/// ```
+/// let roll = tsm::unroll(&std::fs::read("../../examples/influxdb.tsm")?)?;
+/// assert_eq!(roll, std::fs::read("../../examples/influxdb.roll")?);
+/// # Ok::<(), Box<dyn std::error::Error>>(())
+/// ```
+pub fn unroll(image: &[u8]) -> Result<Vec<u8>, Error> {
+    grown(image.len().max(64) * 4, |out| unroll_into(image, out))
+}
+
+/// Writes an image as a roll into the front of a slice, and gives the number of its bytes. Bytes past the roll are left as
+/// they were; an error leaves all.
+///
+/// # Errors
+///
+/// Those of [`check`], then [`Error::ShortBuffer`].
+pub fn unroll_into(image: &[u8], out: &mut [u8]) -> Result<usize, Error> {
+    sys::unroll(image, out)
+}
+
+/// What an act writes, in a buffer that is doubled until it is long enough.
+fn grown(
+    mut len: usize,
+    act: impl Fn(&mut [u8]) -> Result<usize, Error>,
+) -> Result<Vec<u8>, Error> {
+    loop {
+        let mut out = vec![0; len];
+        match act(&mut out) {
+            Ok(written) => {
+                out.truncate(written);
+                out.shrink_to_fit();
+                return Ok(out);
+            }
+            Err(Error::ShortBuffer) => len *= 2,
+            Err(error) => return Err(error),
+        }
+    }
 }
 
 #[cfg(test)]

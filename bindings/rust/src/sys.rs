@@ -58,6 +58,22 @@ mod c {
             size: *mut u32,
             value: *mut i64,
         ) -> u8;
+
+        pub fn tsm_write(
+            roll: *const u8,
+            roll_len: usize,
+            out: *mut u8,
+            out_len: usize,
+            written: *mut usize,
+        ) -> u8;
+
+        pub fn tsm_unroll(
+            image: *const u8,
+            image_len: usize,
+            out: *mut u8,
+            out_len: usize,
+            written: *mut usize,
+        ) -> u8;
     }
 }
 
@@ -171,4 +187,34 @@ pub fn read_point(image: &[u8], key: &[u8], time: i64) -> Result<(Entry, i64), E
         )
     })?;
     Ok((out.entry(), value))
+}
+
+pub fn write(roll: &[u8], out: &mut [u8]) -> Result<usize, Error> {
+    let mut written = 0;
+    // SAFETY: each pointer and length are a slice's, the one that is written unique; the out parameter is a local.
+    answer(unsafe {
+        c::tsm_write(
+            roll.as_ptr(),
+            roll.len(),
+            out.as_mut_ptr(),
+            out.len(),
+            &mut written,
+        )
+    })?;
+    Ok(written)
+}
+
+pub fn unroll(image: &[u8], out: &mut [u8]) -> Result<usize, Error> {
+    let mut written = 0;
+    // SAFETY: each pointer and length are a slice's, the one that is written unique; the out parameter is a local.
+    answer(unsafe {
+        c::tsm_unroll(
+            image.as_ptr(),
+            image.len(),
+            out.as_mut_ptr(),
+            out.len(),
+            &mut written,
+        )
+    })?;
+    Ok(written)
 }

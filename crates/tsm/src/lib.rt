@@ -1,4 +1,4 @@
-// The C interface of the acts. Floor 8: it stands on reader and finder.
+// The C interface of the acts. Floor 8: it stands on reader, finder, writer and unroller.
 // Each function returns 0, or the number of a refusal; out parameters are written only on success.
 use format::BlockRead;
 use format::Checked;
@@ -7,7 +7,7 @@ use format::Found;
 use format::PointRead;
 use format::Written;
 ghost use mathlib.Core.Path.{_≡_};
-ghost use Rattle.format.specs.Acts.{checkAnswer, findAnswer, readBlockAnswer, readBlockTimes, readBlockValues, readPointAnswer, writtenSays};
+ghost use Rattle.format.specs.Acts.{checkAnswer, findAnswer, readBlockAnswer, readBlockTimes, readBlockValues, readPointAnswer, writtenSays, writeAnswer, writeBuffer, unrollAnswer, unrollBuffer};
 ghost use Rattle.tsm.specs.Outs.{numberOf, after, kindOf, minOf, maxOf, offsetOf, sizeOf};
 
 // Checks an image in full, and counts its keys and points.
@@ -162,4 +162,26 @@ fn answer_written(answer: Written, written: &mut usize) -> u8
         }
         Written::Refused(refusal) => refusal.number(),
     }
+}
+
+// Writes a roll as an image.
+#[no_mangle]
+pub extern "C" fn tsm_write(roll: &[u8], out: &mut [u8], written: &mut usize) -> u8
+    ensures answer { λ r. ⌜ r ≡ numberOf (writeAnswer (now (roll .entry)) (now (out .entry))) ⌝ }
+    ensures out { λ r. ⌜ now (out .exit) ≡ writeBuffer (now (roll .entry)) (now (out .entry)) ⌝ }
+    ensures written { λ r. ⌜ now (written .exit) ≡ after (λ n. n) (writeAnswer (now (roll .entry)) (now (out .entry))) (now (written .entry)) ⌝ }
+{
+    let answer = writer::write(roll, out);
+    answer_written(answer, written)
+}
+
+// Writes an image as a roll.
+#[no_mangle]
+pub extern "C" fn tsm_unroll(image: &[u8], out: &mut [u8], written: &mut usize) -> u8
+    ensures answer { λ r. ⌜ r ≡ numberOf (unrollAnswer (now (image .entry)) (now (out .entry))) ⌝ }
+    ensures out { λ r. ⌜ now (out .exit) ≡ unrollBuffer (now (image .entry)) (now (out .entry)) ⌝ }
+    ensures written { λ r. ⌜ now (written .exit) ≡ after (λ n. n) (unrollAnswer (now (image .entry)) (now (out .entry))) (now (written .entry)) ⌝ }
+{
+    let answer = unroller::unroll(image, out);
+    answer_written(answer, written)
 }
