@@ -26,10 +26,11 @@ use Rattle.format.specs.Block.{valuesSection, firstTime, lastTime, bodyBytes, b
 use Rattle.format.specs.Index.{entryBytes}
 use Rattle.format.specs.Writer.{writerEntries}
 use Rattle.format.proofs.AllBelow.{each-below}
-use Rattle.format.proofs.Lists.{each-map, every-each, each-flatMap, ascends-map}
+use Rattle.format.proofs.Lists.{each-map, each-image, every-each, each-flatMap, ascends-map}
 use Rattle.section_laws.proofs.Differences.{inRange, Times}
 use Rattle.section_laws.proofs.Timestamps.{readTimes-section, timesSection-least, timesSection-bytes}
-use Rattle.section_laws.proofs.Integers.{readIntegers-section, integersSection-least, integersSection-bytes}
+use Rattle.section_laws.proofs.BlockLengths.{valuesSection-least}
+use Rattle.section_laws.proofs.Integers.{readIntegers-section, integersSection-bytes}
 use Rattle.merging.proofs.Sorted.{Ascending, ascends-ascending}
 use Rattle.merging.proofs.Orders.{byTime}
 use Rattle.merging.proofs.Facts.{GoodPoint}
@@ -109,17 +110,7 @@ values-laid Integer vs least most good =
     (readIntegers-section 0 vs (each-below (2 ^ 64) (omega arith) vs (each-map (λ v. ltb-true v (2 ^ 64)) vs good)) least most)
 values-laid Boolean vs least most good = record { bit = each-map (λ v. leb-true v 1) vs good; bytes = refl }
 
-values-some : (kind : Kind) (vs : List ℕ) → 1 ≤ length vs → 1 ≤ length (valuesSection kind vs)
-unfolding booleansSection
-values-some Integer vs least = integersSection-least vs least
-values-some Boolean vs least = omega arith
-
 -- ---- a block
-
--- of each point, its time or its value
-each-part : {A : Type 0} (f : Point → A) (P : A → Type 0) (ps : List Point) → Each (λ p. P (f p)) ps → Each P (map f ps)
-each-part f P [] h = tt
-each-part f P (p ∷ ps) h = (h .0, each-part f P ps (h .1))
 
 module _ (kind : Kind) (ps : List Point) (sized : Sized ps) (good : Each (GoodPoint kind) ps) (up : Ascending byTime ps) where
   abbrev ts : List ℤ
@@ -135,7 +126,7 @@ module _ (kind : Kind) (ps : List Point) (sized : Sized ps) (good : Each (GoodPo
         some = omega arith;
         few = omega arith;
         ascend = ascends-map ltZ (λ p. p .time) ps ∙ ascends-ascending byTime ps .1 up;
-        range = every-each inRange ts .1 (each-part (λ p. p .time) (λ t. inRange t ≡ true) ps (each-map (λ p g. lt-ltb (mag (p .time)) (2 ^ 63) (g .time)) ps good));
+        range = every-each inRange ts .1 (each-image (λ t. inRange t ≡ true) (λ p. p .time) ps .1 (each-map (λ p g. lt-ltb (mag (p .time)) (2 ^ 63) (g .time)) ps good));
       }
 
   block-keeps : (offset : ℕ) → KeepsBlock kind (blockFor kind offset ps)
@@ -150,10 +141,10 @@ module _ (kind : Kind) (ps : List Point) (sized : Sized ps) (good : Each (GoodPo
         bytes = rw (append-assoc T (timesSection ts) (valuesSection kind vs));
         size = refl;
         timesSome = omega (arith, timesSection-least ts some);
-        valuesSome = values-some kind vs (omega arith);
+        valuesSome = valuesSection-least kind vs (omega arith);
         timesSection = times-laid ts times-good;
         valuesSection = values-laid kind vs (omega arith) (omega arith)
-            (each-part (λ p. p .value) (λ v. goodValue kind v ≡ true) ps (each-map (λ p g. g .value) ps good));
+            (each-image (λ v. goodValue kind v ≡ true) (λ p. p .value) ps .1 (each-map (λ p g. g .value) ps good));
         first = refl;
         last = refl;
       }

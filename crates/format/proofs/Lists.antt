@@ -2,6 +2,7 @@
 --   each-map, each-both                     of each element, another fact that follows from one, from two
 --   every-each, none-each                   a test that every element passes, or that none does
 --   each-append, each-left, each-right, each-flatMap   of joins and their parts
+--   each-image                              of a list that is mapped
 --   ascends-rest                            the order of a list without its first
 --   ascends-map, ascendsFrom-map            the order of a list that is mapped
 --   flatMap-nil, flatMap-cons, flatMap-append   a list mapped and joined
@@ -56,6 +57,10 @@ module _ {A : Type 0} (P : A → Type 0) where
   pub each-right : (xs ys : List A) → Each P (xs ++ ys) → Each P ys
   each-right [] ys h = h
   each-right (x ∷ xs) ys h = each-right xs ys (h .1)
+
+pub each-image : {A B : Type 0} (P : B → Type 0) (f : A → B) (xs : List A) → Each P (map f xs) ↔ Each (λ x. P (f x)) xs
+each-image P f [] = (λ h. tt, λ h. tt)
+each-image P f (x ∷ xs) = let rest = each-image P f xs in (λ h. (h .0, rest .0 (h .1)), λ h. (h .0, rest .1 (h .1)))
 
 module _ {A B : Type 0} (P : B → Type 0) (f : A → List B) where
   pub each-flatMap : (xs : List A) → Each P (flatMap f xs) ↔ Each (λ x. Each P (f x)) xs
