@@ -5,7 +5,7 @@
 --   each-image                              of a list that is mapped
 --   ascends-rest                            the order of a list without its first
 --   ascends-map, ascendsFrom-map            the order of a list that is mapped
---   flatMap-nil, flatMap-cons, flatMap-append   a list mapped and joined
+--   flatMap-append                          a list mapped and joined
 --   flatMap-length, flatMap-most, flatMap-each   and its length: of parts of one length, of parts that have a most, and each part is no longer
 --   not-empty, has-one, nothing-left        a list with an element, a list without
 use Prim.Native.Nat.{ℕ, _*_, _≤_}
@@ -86,14 +86,6 @@ module _ {A B : Type 0} (before : B → B → Bool) (f : A → B) where
   ascends-map (x ∷ xs) = ascendsFrom-map x xs
 
 module _ {A B : Type 0} (f : A → List B) where
-  pub flatMap-nil : flatMap f [] ≡ []
-  unfolding flatMap
-  flatMap-nil = refl
-
-  pub flatMap-cons : (x : A) (xs : List A) → flatMap f (x ∷ xs) ≡ f x ++ flatMap f xs
-  unfolding flatMap
-  flatMap-cons x xs = refl
-
   pub flatMap-append : (xs ys : List A) → flatMap f (xs ++ ys) ≡ flatMap f xs ++ flatMap f ys
   unfolding flatMap
   flatMap-append [] ys = refl
