@@ -1,13 +1,13 @@
 -- Blocks and the times of their points: the points of blocks ascend exactly when those of each block do and each block's min is above the max before it.
 --   Spans b           a block with a point, its min the first time and its max the last
 --   from-first, to-last   ascending points lie from the first time to the last
---   pointsOf, apart   the points of blocks; one block's max is below another's min
+--   pointsOf, Ascend   the points of blocks; those of a block ascend
 --   min-max           a block's min is at most its max
 --   points-ascend     from blocks to their points
 --   each-ascends, blocks-apart   from points to their blocks
 use Prim.Native.Nat.{_≤_}
 use mathlib.Core.Path.{_≡_, refl, subst}
-use mathlib.Core.Bool.{Bool, true}
+use mathlib.Core.Bool.{true}
 use mathlib.Core.List.{List, [], _∷_, flatMap}
 use lib.IntN.{ℤ}
 use lib.Signed.{ltZ, leZ}
@@ -22,6 +22,7 @@ use Rattle.format.proofs.Points.{first-holds, last-holds}
 use Rattle.merging.proofs.Sorted.{Above, Ascending, above-trans, ascending-append}
 use Rattle.merging.proofs.Orders.{byTime}
 use Rattle.acceptance.specs.Blocks.{Block}
+use Rattle.acceptance.proofs.Layouts.{apart}
 
 pub record Spans (b : Block) : Type 0 where
   pub some : 1 ≤ length (b .points)
@@ -45,9 +46,6 @@ to-last (p ∷ q ∷ ps) a =
 
 abbrev pub pointsOf : List Block → List Point
 pointsOf bs = flatMap (λ b. b .points) bs
-
-abbrev pub apart : Block → Block → Bool
-apart a b = ltZ (a .max) (b .min)
 
 abbrev pub Ascend : Block → Type 0
 Ascend b = Ascending byTime (b .points)
