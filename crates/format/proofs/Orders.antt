@@ -1,6 +1,6 @@
 -- The orders of times and of keys: each is strict and total.
 --   time-irreflexive, time-transitive, time-total   times, by `ltZ`
---   time-le, lt-not-le, le-reflexive, le-transitive, lt-le, lt-le-lt, le-lt-lt   `leZ`, and the two together
+--   time-le, lt-not-le, le-reflexive, lt-le, lt-le-lt, le-lt-lt   `leZ`, and the two together
 --   sameTime-refl, sameTime-path, same-time, other-time   the test of two times
 --   time-fits, fits-time                a time is a signed 64-bit number
 --   key-irreflexive, key-transitive, key-total, empty-first   keys, by `keyBefore`
@@ -101,15 +101,6 @@ pub lt-le : (a b : ℤ) → ltZ a b ≡ true → leZ a b ≡ true
 lt-le a b h =
     time-order a b
     ∙ ap not (⊎-elim (λ k. never (time-transitive a b a h k) (time-irreflexive a)) (λ k. k) (true-or-false (ltZ b a)))
-
-pub le-transitive : (a b c : ℤ) → leZ a b ≡ true → leZ b c ≡ true → leZ a c ≡ true
-le-transitive (pos a) (pos b) (pos c) h k = le-leb a c (omega (arith, leb-true a b h, leb-true b c k))
-le-transitive (pos a) (pos b) (negsuc c) h k = k
-le-transitive (pos a) (negsuc b) c h k = cc
-le-transitive (negsuc a) (pos b) (pos c) h k = refl
-le-transitive (negsuc a) (pos b) (negsuc c) h k = cc
-le-transitive (negsuc a) (negsuc b) (pos c) h k = refl
-le-transitive (negsuc a) (negsuc b) (negsuc c) h k = le-leb c a (omega (arith, leb-true b a h, leb-true c b k))
 
 pub same-time : (t u : ℤ) → t ≡ u → sameTime t u ≡ true
 same-time (pos a) (pos b) e = eq-eqb a b (cc)

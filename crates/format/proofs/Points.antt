@@ -1,9 +1,10 @@
 -- Points from times and values, one by one.
 --   points-times, points-values, points-length   the parts of points, and how many
 --   points-again                                 points from their own times and values
+--   first-holds, last-holds                      what holds of each time holds of the first and of the last
 --   points-back                                  points from the first n cells that hold their times and values
 --   time-good                                    the time of a good point is a signed 64-bit number
-use Prim.Native.Nat.{ℕ, suc, _^_, _<_}
+use Prim.Native.Nat.{ℕ, suc, _^_, _≤_, _<_}
 use mathlib.Core.Path.{_≡_, refl, ap, _∙_}
 use mathlib.Core.Bool.{true, _&&_}
 use mathlib.Core.List.{List, [], _∷_, map}
@@ -15,7 +16,8 @@ use lib.Seq.{take-at}
 use Rattle.format.specs.Meaning.{Point}
 use Rattle.format.specs.declared.Kind.{Kind}
 use Rattle.format.specs.Limits.{timeLeast, timeMost}
-use Rattle.format.specs.Block.{pointsFrom}
+use Rattle.format.specs.Choice.{Each}
+use Rattle.format.specs.Block.{pointsFrom, firstTime, lastTime}
 use Rattle.format.specs.WellFormed.{goodValue, goodPoint}
 use Rattle.format.proofs.Tests.{both-left}
 use Rattle.format.proofs.Orders.{time-fits}
@@ -40,6 +42,16 @@ points-length (t ∷ ts) (v ∷ vs) e = ap suc (points-length ts vs (omega arith
 pub points-again : (ps : List Point) → pointsFrom (map (λ p. p .time) ps) (map (λ p. p .value) ps) ≡ ps
 points-again [] = refl
 points-again (p ∷ ps) = ap (λ (l : List Point). p ∷ l) (points-again ps)
+
+module _ (P : ℤ → Type 0) where
+  pub first-holds : (ps : List Point) → 1 ≤ length ps → Each (λ p. P (p .time)) ps → P (firstTime ps)
+  first-holds [] h e = absurd (omega arith)
+  first-holds (p ∷ ps) h e = e .0
+
+  pub last-holds : (ps : List Point) → 1 ≤ length ps → Each (λ p. P (p .time)) ps → P (lastTime ps)
+  last-holds [] h e = absurd (omega arith)
+  last-holds (p ∷ []) h e = e .0
+  last-holds (p ∷ q ∷ ps) h e = last-holds (q ∷ ps) (omega arith) (e .1)
 
 pub time-good : (kind : Kind) (p : Point) → goodPoint kind p ≡ true → mag (p .time) < 2 ^ 63
 time-good kind p good = time-fits (p .time) (both-left (leZ timeLeast (p .time) && leZ (p .time) timeMost) (goodValue kind (p .value)) good)
