@@ -1,5 +1,6 @@
 -- The table of selectors, and the selector that our writer takes: the lowest that fits.
 --   count-least, count-most, width-most, used-most   rules of the table, each by one test that is computed
+--   upTo, at-below     a test that passes at each number below another
 --   Lowest             a selector fits and none below it does
 --   selectorFor-lowest     our writer's selector is such a one where some selector fits
 --   selectorFor-is         and the only one
@@ -19,11 +20,11 @@ use Rattle.format.proofs.Tests.{both-left, both-right, both-true, never}
 -- ---- the table
 
 -- a test passes at each number below n
-abbrev upTo : (ℕ → Bool) → ℕ → Bool
+abbrev pub upTo : (ℕ → Bool) → ℕ → Bool
 upTo f zero = true
 upTo f (suc n) = f n && upTo f n
 
-at-below : (f : ℕ → Bool) (n : ℕ) → upTo f n ≡ true → (k : ℕ) → k < n → f k ≡ true
+pub at-below : (f : ℕ → Bool) (n : ℕ) → upTo f n ≡ true → (k : ℕ) → k < n → f k ≡ true
 at-below f zero t k h = absurd (omega arith)
 at-below f (suc n) t k h =
     elim (decLt k n) [

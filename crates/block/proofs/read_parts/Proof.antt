@@ -1,0 +1,216 @@
+-- `read_parts` meets its contract: each section is read as the part that it is, with its place added.
+use Prim.Native.Nat.{ℕ, _+_, _-_}
+use mathlib.Core.Path.{_≡_, ap, sym, subst, _∙_}
+use mathlib.Core.List.{List}
+use native.Mathlib.Omega.{arith}
+use lib.ListN.{length, take, drop, length-drop}
+use lib.Seq.{take-all}
+use borrow.Author.Needs.{needs}
+use Rattle.format.specs.declared.Refusal.the-variants.{Timestamps, Values}
+use Rattle.format.specs.Timestamps.{readTimes}
+use Rattle.format.specs.Block.{readValues, pointsFrom}
+use Rattle.format.proofs.Parts.{part-length}
+use Rattle.format.proofs.Points.{points-times, points-values, points-length}
+use Rattle.block.specs.Answers.{timesPlace, valuesPlace, valuesAnswer, ValuesLaid}
+use Rattle.block.proofs.Sections.{TimesAre, BrokenAt, times-count, times-broken, times-few, values-read, values-broken}
+use Rattle.block.proofs.Bodies.{parts-times, parts-values, parts-read}
+use Rattle.block.proofs.Answers.{refused-answer, points-answer}
+use Rattle.block.proofs.read_parts.Statement.{statement}
+use Rattle.block.proofs.read_parts.Tie as tie
+
+-- the sections, and where they stand
+module _ (s : tie.Start) where
+  abbrev timesPart : List ℕ
+  timesPart = take (s .args .split - s .args .next) (drop (s .args .next) (s .args .block .now))
+
+  abbrev timesPlaceAt : ℕ
+  timesPlaceAt = s .args .next + s .args .offset
+
+  abbrev valuesPart : List ℕ
+  valuesPart = drop (s .args .split) (s .args .block .now)
+
+  abbrev valuesPlaceAt : ℕ
+  valuesPlaceAt = s .args .split + s .args .offset
+
+  -- the part up to the block's end
+  values-part : take (length (s .args .block .now) - s .args .split) valuesPart ≡ valuesPart
+  values-part = take-all (length (s .args .block .now) - s .args .split) valuesPart (omega (arith, length-drop (s .args .split) (s .args .block .now)))
+
+sub-read : tie.Need-sub-read
+sub-read c = search needs
+
+part-read-start : tie.Need-part-read-start
+part-read-start c = search needs
+
+part-read-end : tie.Need-part-read-end
+part-read-end c = search needs
+
+read-requires : tie.Need-read-requires
+read-requires c κs = search needs
+
+enum-known-read : tie.Need-enum-known-read
+enum-known-read c = search needs
+
+enum-told : tie.Need-enum-told
+enum-told c = search needs
+
+times-place-requires : tie.Need-times-place-requires
+times-place-requires c κs = search needs
+
+add-t19 : tie.Need-add-t19
+add-t19 c = search needs
+
+-- the timestamps are broken
+no-times : (c : tie.After-times-place)
+    → BrokenAt Timestamps (timesPlaceAt (c .before .before .before .before .before .before .before .before .before)) (c .times-place .result) (length (timesPart (c .before .before .before .before .before .before .before .before .before))) (readTimes (timesPlaceAt (c .before .before .before .before .before .before .before .before .before)) (timesPart (c .before .before .before .before .before .before .before .before .before)))
+no-times c =
+    let told = c .before .enum-told .given in
+    let here : c .times-place .result ≡ told .0 .0 = c .times-place .ensures ∙ ap timesPlace (told .1) in
+    times-broken (timesPlaceAt (c .before .before .before .before .before .before .before .before .before)) (c .times-place .result) (timesPart (c .before .before .before .before .before .before .before .before .before)) (rw here (sym (told .1) ∙ c .before .before .before .before .read .ensures .0))
+
+add-t20 : tie.Need-add-t20
+add-t20 c =
+    let s = c .before .before .before .before .before .before .before .before .before in
+    omega (arith, no-times c .within, part-length (s .args .block .now) (s .args .next) (s .args .split) (s .pre .1), s .pre)
+
+same-length : tie.Need-same-length
+same-length c = search needs
+
+returns : tie.Need-returns
+returns c =
+    let a = c .before .before .before .before .before .before .before .before .before .args in
+    refused-answer _ _ _ _ Timestamps (c .times-place .result + (a .next + a .offset)) (parts-times (a .kind) (a .offset) (a .next) (a .split) (a .block .now) _ (no-times c .refusal))
+
+sub-read-values : tie.Need-sub-read-values
+sub-read-values c = search needs
+
+part-read-values-start : tie.Need-part-read-values-start
+part-read-values-start c = search needs
+
+part-read-values-end : tie.Need-part-read-values-end
+part-read-values-end c = search needs
+
+-- the timestamps are read
+module _ (c : tie.After-known-told) where
+  abbrev start : tie.Start
+  start = c .before .before .before .before .before .before .before .before .before
+
+  abbrev n : ℕ
+  n = c .before .read2 .given .0 .0
+
+  stamps : TimesAre (timesPlaceAt start) n (timesPart start) (start .args .times .now) (c .before .before .before .before .read .last .1 .0)
+  stamps = times-count (timesPlaceAt start) n (timesPart start) (start .args .times .now) (c .before .before .before .before .read .last .1 .0) (sym (c .before .read2 .given .1) ∙ c .before .before .before .before .read .ensures .0) (c .before .before .before .before .read .ensures .1)
+
+read-values-requires : tie.Need-read-values-requires
+read-values-requires c κs =
+    let k = c .before .before in
+    omega (arith, times-few (timesPlaceAt (start k)) (timesPart (start k)) (stamps k .times) (stamps k .read) .few, stamps k .count, start k .pre)
+
+enum-told-2 : tie.Need-enum-told-2
+enum-told-2 c = search needs
+
+enum-told-3 : tie.Need-enum-told-3
+enum-told-3 c = search needs
+
+values-place-requires : tie.Need-values-place-requires
+values-place-requires c κs = search needs
+
+add-t29 : tie.Need-add-t29
+add-t29 c = search needs
+
+-- the values, by the reader's answer
+module _ (c : tie.After-read-values) where
+  abbrev known : tie.After-known-told
+  known = c .before .before .before
+
+  abbrev from : tie.Start
+  from = start known
+
+  told : c .read-values .result ≡ valuesAnswer (readValues (from .args .kind) (n known) 0 (valuesPart from))
+  told = c .read-values .ensures .0 ∙ rw (values-part from)
+
+  cells : ValuesLaid (readValues (from .args .kind) (n known) 0 (valuesPart from)) (from .args .values .now) (c .read-values .last .1 .1 .1 .0)
+  cells =
+      subst (λ (l : List ℕ). ValuesLaid (readValues (from .args .kind) (n known) 0 l) (from .args .values .now) (c .read-values .last .1 .1 .1 .0))
+      (values-part from) (c .read-values .ensures .1)
+
+  -- as many as there are times
+  counted : readValues (from .args .kind) (length (stamps known .times)) (valuesPlaceAt from) (valuesPart from) ≡ readValues (from .args .kind) (n known) (valuesPlaceAt from) (valuesPart from)
+  counted = ap (λ (m : ℕ). readValues (from .args .kind) m (valuesPlaceAt from) (valuesPart from)) (stamps known .count)
+
+-- the values are broken
+no-values : (c : tie.After-values-place) →
+    let s = from (c .before .before .before .before .before) in
+    BrokenAt Values (valuesPlaceAt s) (c .values-place .result) (length (valuesPart s)) (readValues (s .args .kind) (n (known (c .before .before .before .before .before))) (valuesPlaceAt s) (valuesPart s))
+no-values c =
+    let r = c .before .before .before .before .before in
+    let s = from r in
+    let told3 = c .before .enum-told3 .given in
+    let here : c .values-place .result ≡ told3 .0 .0 = c .values-place .ensures ∙ ap valuesPlace (told3 .1) in
+    values-broken (s .args .kind) (valuesPlaceAt s) (n (known r)) (valuesPart s) (c .values-place .result) (rw here (sym (told3 .1) ∙ told r))
+
+add-t30 : tie.Need-add-t30
+add-t30 c = let s = from (c .before .before .before .before .before) in omega (arith, no-values c .within, length-drop (s .args .split) (s .args .block .now), s .pre)
+
+same-length-2 : tie.Need-same-length-2
+same-length-2 c = search needs
+
+same-length-3 : tie.Need-same-length-3
+same-length-3 c = search needs
+
+returns-2 : tie.Need-returns-2
+returns-2 c =
+    let r = c .before .before .before .before .before in
+    let a = from r .args in
+    refused-answer _ _ _ _ Values (c .values-place .result + (a .split + a .offset))
+    (parts-values (a .kind) (a .offset) (a .next) (a .split) (a .block .now) (stamps (known r) .times) (stamps (known r) .read) _ (counted r ∙ no-values c .refusal))
+
+same-length-4 : tie.Need-same-length-4
+same-length-4 c = search needs
+
+same-length-5 : tie.Need-same-length-5
+same-length-5 c = search needs
+
+returns-3 : tie.Need-returns-3
+returns-3 c =
+    let r = c .before .before .before .before in
+    let a = from r .args in
+    let ts = stamps (known r) in
+    let vs = values-read (a .kind) (valuesPlaceAt (from r)) (n (known r)) (valuesPart (from r)) (a .values .now) (r .read-values .last .1 .1 .1 .0) (sym (c .enum-told2 .given .1) ∙ told r) (cells r) in
+    let same : length (vs .values) ≡ length (ts .times) = vs .count ∙ sym (ts .count) in
+    points-answer _ _ _ _ (n (known r)) (pointsFrom (ts .times) (vs .values))
+    (parts-read (a .kind) (a .offset) (a .next) (a .split) (a .block .now) (ts .times) (ts .read) (vs .values) (counted r ∙ vs .read))
+    (points-length (ts .times) (vs .values) same ∙ ts .count)
+    (rw (points-times (ts .times) (vs .values) same) (ts .cells))
+    (rw (points-values (ts .times) (vs .values) same) (vs .cells))
+
+pub read-parts-spec : {M : Type 1} → statement M
+read-parts-spec =
+    tie.close
+    (tie.spec
+    sub-read
+    part-read-start
+    part-read-end
+    read-requires
+    enum-known-read
+    enum-told
+    times-place-requires
+    add-t19
+    add-t20
+    same-length
+    returns
+    sub-read-values
+    part-read-values-start
+    part-read-values-end
+    read-values-requires
+    enum-told-2
+    enum-told-3
+    values-place-requires
+    add-t29
+    add-t30
+    same-length-2
+    same-length-3
+    returns-2
+    same-length-4
+    same-length-5
+    returns-3)

@@ -1,0 +1,2 @@
+-- Definitions that the timestamps and the integers section share.
+pub mod Choices
