@@ -1,0 +1,97 @@
+-- A series of a merge is added: the series after it come to what all came to at first.
+--   begin-asks     its key can be opened
+--   points-ready   its points can be added
+--   series-added, series-past   what adding it answers, by what adding its points answers
+--   one-added, one-past         what adding it answers, by cases
+use Prim.Native.Nat.{ℕ, _+_, _≤_}
+use mathlib.Core.Path.{_≡_, refl, ap, sym, subst, _∙_}
+use mathlib.Core.Bool.{Bool, true}
+use mathlib.Core.List.{List, [], _∷_}
+use native.Mathlib.Omega.{arith}
+use lib.IntN.{ℤ}
+use lib.ListN.{length}
+use Rattle.format.specs.declared.Kind.{Kind}
+use Rattle.format.specs.Limits.{keyMost}
+use Rattle.format.specs.Meaning.{Point, Series, Meaning}
+use Rattle.format.specs.Merge.{mergePoints}
+use Rattle.builder.specs.declared.Places.{Places}
+use Rattle.numbers.specs.Laying.{lay, Room}
+use Rattle.builder.specs.Steps.{PlacesFit, Closed, keyEnd, seriesEnd, headBytes, beginPlaces}
+use Rattle.builder.specs.Passes.{Filling, SeriesRoom, Past}
+use Rattle.builder.proofs.SeriesPasses.{good-key, begin-room, begin-filling, series-same, series-room, past-series}
+use Rattle.feed.specs.declared.Feed.{Feed}
+use Rattle.feed.specs.Feeds.{blocksLeft, pointsLeft}
+use Rattle.feed.proofs.Cells.{points-blocks}
+use Rattle.writer.specs.Adding.{closedKey}
+use Rattle.merge.specs.declared.SeriesAdded.{SeriesAdded}
+use Rattle.merge.specs.Turns.{chosenKey, chosenKind, KeyDone}
+use Rattle.merge.specs.Adding.{mergedPoints, PointsReady, nextSeries, later, SeriesReady, openClosed, OneAdded, SeriesAddedAs}
+
+module _ {second : Bool} {older : List ℕ} {x : Feed} {olderTimes : List ℤ} {olderValues : List ℕ}
+    {newer : List ℕ} {y : Feed} {newerTimes : List ℤ} {newerValues : List ℕ}
+    {laying : Bool} {b e : ℕ} {times : List ℤ} {values out : List ℕ}
+    (h : SeriesReady second older x olderTimes olderValues newer y newerTimes newerValues laying b e times values out) where
+  abbrev one : Series
+  one = nextSeries second older x newer y
+
+  abbrev rest : Meaning
+  rest = later older x newer y
+
+  abbrev places : Places
+  places = record { block = b; entry = e; filled = 0; blocks = 0; count = 0 }
+
+  pub begin-asks : (length (one .key) ≤ keyMost) × PlacesFit places × Room laying (e + length (one .key) + 5) out
+  begin-asks = (
+    good-key one (h .good),
+    record { block-most = omega (arith, h .block-in); entry-most = omega (arith, h .entry-in); blocks-most = omega arith },
+    begin-room laying one rest places out (h .room),
+  )
+
+  points-are : mergedPoints older x olderTimes olderValues newer y newerTimes newerValues ≡ one .points
+  points-are = rw (points-blocks x olderTimes olderValues older (h .older-held), points-blocks y newerTimes newerValues newer (h .newer-held)) refl
+
+  module _ (s : Places) (mid : List ℕ) (opened : s ≡ beginPlaces (one .key) places) (laid : mid ≡ lay laying e (headBytes (one .key) (one .kind)) out) where
+    pub points-ready : PointsReady older x olderTimes olderValues newer y newerTimes newerValues laying (one .kind) s times values mid
+    points-ready = record {
+      older-ready = h .older-ready;
+      newer-ready = h .newer-ready;
+      filling =
+          subst (λ (ps : List Point). Filling laying (one .kind) ps s times values mid) (sym points-are)
+          (begin-filling laying one rest places out (h .room) (h .good) (h .block-in) (h .entry-in) s times values mid opened laid (h .in-times) (h .in-values));
+    }
+
+    -- what the key comes to
+    abbrev pub keyClosed : Closed
+    keyClosed = closedKey laying (one .kind) (mergedPoints older x olderTimes olderValues newer y newerTimes newerValues) s times values mid
+
+    whole-is : keyClosed ≡ keyEnd laying (one .kind) [] (one .points) (beginPlaces (one .key) places) (lay laying e (headBytes (one .key) (one .kind)) out)
+    unfolding beginPlaces
+    whole-is = rw (points-are, opened, laid) refl
+
+    pub series-past : Past keyClosed → Past (openClosed second older x newer y laying b e out)
+    series-past p = past-series laying one rest places out (h .room) (subst Past whole-is p)
+
+    pub series-added : (x′ y′ : Feed) (b′ e′ : ℕ) (out′ : List ℕ) → KeyDone older x x′ → KeyDone newer y y′
+        → _≡_ {A = Closed} (record { block = b′; entry = e′; bytes = out′ }) keyClosed → length out′ ≡ length out
+        → OneAdded older x newer y laying (openClosed second older x newer y laying b e out) x′ y′ b′ e′ out′
+    series-added x′ y′ b′ e′ out′ older-done newer-done closed same-out =
+        let is = closed ∙ whole-is in
+        record {
+          older-done = older-done;
+          newer-done = newer-done;
+          room = λ l.
+              rw (ap (λ (c : Closed). c .block) is, ap (λ (c : Closed). c .entry) is)
+              (series-room laying one rest places out (h .room) out′ same-out l);
+          same =
+              ap (λ (c : Closed). seriesEnd laying rest (c .block) (c .entry) (c .bytes)) is
+              ∙ series-same laying one rest places out (h .room);
+        }
+
+-- ---- what adding it answers
+
+module _ (older : List ℕ) (x : Feed) (newer : List ℕ) (y : Feed) (laying : Bool) (whole : Closed) (r : SeriesAdded) (out : List ℕ) where
+  pub one-added : (x′ y′ : Feed) (b e : ℕ) → r ≡ SeriesAdded.Series x′ y′ b e → SeriesAddedAs older x newer y laying whole r out → OneAdded older x newer y laying whole x′ y′ b e out
+  one-added x′ y′ b e f h = subst (λ (z : SeriesAdded). SeriesAddedAs older x newer y laying whole z out) f h
+
+  pub one-past : r ≡ SeriesAdded.TooLong → SeriesAddedAs older x newer y laying whole r out → Past whole
+  one-past f h = subst (λ (z : SeriesAdded). SeriesAddedAs older x newer y laying whole z out) f h

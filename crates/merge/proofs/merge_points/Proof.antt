@@ -1,0 +1,272 @@
+-- `merge_points` meets its contract: the points to come and the fill come to what the key came to at first.
+use borrow.Author.Needs.{needs}
+use Prim.Native.Nat.{ℕ, _^_, _≤_, _<_}
+use mathlib.Core.Path.{_≡_, refl, sym, ap, subst, _∙_}
+use mathlib.Core.Bool.{Bool}
+use mathlib.Core.List.{List}
+use native.Mathlib.Omega.{arith}
+use lib.IntN.{ℤ}
+use lib.Signed.{mag}
+use lib.ListN.{length}
+use mir.Syntax.{w64}
+use mir.Val.{toZ, ofZ}
+use mir.ValLaws.{toZ-ofZ}
+use Rattle.format.specs.Meaning.{Point}
+use Rattle.block_writer.specs.Filled.{filled}
+use Rattle.builder.specs.Steps.{fuller, pushPlaces, pushBytes, pushFill}
+use Rattle.builder.specs.Passes.{Near}
+use Rattle.writer.specs.Adding.{closedKey}
+use Rattle.writer.proofs.Judges.{past-both, past-neither}
+use Rattle.merge.specs.declared.Front.{Front}
+use Rattle.merge.specs.declared.Picked.{Picked}
+use Rattle.merge.specs.Fronts.{PickedAs}
+use Rattle.merge.proofs.Points.{Merging, frontsMerged, front-self, merging-starts, merging-past-all, merging-all, merging-past, merging-ends, merging-fits, merging-less, merging-goes-on}
+use Rattle.merge.proofs.merge_points.Statement.{statement}
+use Rattle.merge.proofs.merge_points.Tie as tie
+
+abbrev Inv-loop : tie.InvT-loop
+Inv-loop older ot₀ ov₀ newer nt₀ nv₀ out₀ laying kind times₀ values₀ places₀ first₀ second₀ ot ov nt nv out times values places first second =
+    Merging older (first₀ .feed) newer (second₀ .feed) laying kind (closedKey laying kind (frontsMerged older first₀ ot₀ ov₀ newer second₀ nt₀ nv₀) places₀ times₀ values₀ out₀)
+    first ot ov second nt nv places times values out
+    × (length ot ≡ length ot₀) × (length ov ≡ length ov₀) × (length nt ≡ length nt₀) × (length nv ≡ length nv₀)
+    × (length out ≡ length out₀) × (length times ≡ length times₀) × (length values ≡ length values₀)
+
+abbrev μ-loop : tie.MeasureT-loop
+μ-loop older ot₀ ov₀ newer nt₀ nv₀ out₀ laying kind times₀ values₀ places₀ first₀ second₀ ot ov nt nv out times values places first second =
+    length (frontsMerged older first ot ov newer second nt nv)
+
+-- the fronts are settled
+module _ (c : tie.After-slice-known6 Inv-loop μ-loop) where
+  abbrev start : tie.Start Inv-loop μ-loop
+  start = c .before .before .before .before .before .before .before .before .before .before .before .before .before .before .before .before .before .before
+
+  abbrev o : Front
+  o = c .before .before .before .before .before .before .before .before .before .settle .result
+
+  abbrev ot : List ℤ
+  ot = c .before .before .before .before .before .before .before .before .before .settle .last .1 .1 .0
+
+  abbrev ov : List ℕ
+  ov = c .before .before .before .before .before .before .before .before .before .settle .last .1 .1 .1 .0
+
+  abbrev n : Front
+  n = c .before .before .before .settle2 .result
+
+  abbrev nt : List ℤ
+  nt = c .before .before .before .settle2 .last .1 .1 .0
+
+  abbrev nv : List ℕ
+  nv = c .before .before .before .settle2 .last .1 .1 .1 .0
+
+  begins : Merging (start .args .older .now) (o .feed) (start .args .newer .now) (n .feed) (start .args .laying) (start .args .kind)
+      (closedKey (start .args .laying) (start .args .kind) (frontsMerged (start .args .older .now) o ot ov (start .args .newer .now) n nt nv) (start .args .opened) (start .args .times .now) (start .args .values .now) (start .args .out .now))
+      o ot ov n nt nv (start .args .opened) (start .args .times .now) (start .args .values .now) (start .args .out .now)
+  begins = merging-starts (start .pre) o ot ov (c .before .before .before .before .before .before .before .before .before .settle .ensures) n nt nv (c .before .before .before .settle2 .ensures)
+
+-- a point was picked
+module _ (c : tie.After-known-told Inv-loop μ-loop) where
+  abbrev settled : tie.After-slice-known6 Inv-loop μ-loop
+  settled = c .before .before .before .before .before .before .before
+
+  abbrev here : tie.At-loop Inv-loop μ-loop
+  here = c .before .before .before .before .before .before
+
+  abbrev time : ℤ
+  time = c .before .picked .given .0 .0
+
+  abbrev pattern : ℕ
+  pattern = c .before .picked .given .0 .1 .0
+
+  abbrev first : Bool
+  first = c .before .picked .given .0 .1 .1 .0
+
+  abbrev second : Bool
+  second = c .before .picked .given .0 .1 .1 .1 .0
+
+  time-is : toZ w64 (ofZ w64 time) ≡ time
+  time-is = let fits : mag time < 2 ^ 63 = omega (arith, c .known-told .given) in toZ-ofZ w64 time (record { sfits = fits })
+
+  point : PickedAs (here .loop .first) (here .loop .second) (Picked.Point time pattern first second)
+  point = subst (PickedAs (here .loop .first) (here .loop .second)) (c .before .picked .given .1) (c .before .before .before .pick .ensures)
+
+  near : Near (here .loop .places .block) (here .loop .places .entry)
+  near =
+      let s = here .loop .places in
+      let within = past-neither (s .block) (s .entry) (sym (c .before .before .before .before .before .past .ensures) ∙ c .before .before .before .before .if1 .left) in
+      record { block-near = omega (arith, within .0); entry-near = omega (arith, within .1) }
+
+-- it is added
+module _ (c : tie.After-push Inv-loop μ-loop) where
+  abbrev read : tie.After-known-told Inv-loop μ-loop
+  read = c .before .before .before .before
+
+  abbrev fill : ℤ → List Point
+  fill z = let l = here read .loop in fuller (l .places .filled) (l .times) (l .values) z (pattern read)
+
+  places-are : c .push .result ≡ pushPlaces (start (settled read) .args .kind) (fill (time read)) (here read .loop .places)
+  places-are = c .push .ensures .0 ∙ ap (λ (z : ℤ). pushPlaces (start (settled read) .args .kind) (fill z) (here read .loop .places)) (time-is read)
+
+  bytes-are : c .push .last .0 ≡ pushBytes (start (settled read) .args .laying) (start (settled read) .args .kind) (fill (time read)) (here read .loop .places) (here read .loop .out)
+  bytes-are = c .push .ensures .1 .0 ∙ ap (λ (z : ℤ). pushBytes (start (settled read) .args .laying) (start (settled read) .args .kind) (fill z) (here read .loop .places) (here read .loop .out)) (time-is read)
+
+  fill-is : filled (c .push .result .filled) (c .push .last .1 .1 .1 .0) (c .push .last .1 .1 .1 .1 .0) ≡ pushFill (fill (time read))
+  fill-is = c .push .ensures .1 .1 ∙ ap (λ (z : ℤ). pushFill (fill z)) (time-is read)
+
+settle-requires : tie.Need-settle-requires Inv-loop μ-loop
+settle-requires c κs = c .before .before .before .before .before .before .before .before .pre .older-ready
+
+settle-requires-2 : tie.Need-settle-requires-2 Inv-loop μ-loop
+settle-requires-2 c κs = c .before .before .before .before .before .before .before .before .before .before .before .before .before .before .pre .newer-ready
+
+loop-holds : tie.Need-loop-holds Inv-loop μ-loop
+loop-holds c = (begins c, refl, refl, refl, refl, refl, refl, refl)
+
+past-requires : tie.Need-past-requires Inv-loop μ-loop
+past-requires c κs = tt
+
+same-length : tie.Need-same-length Inv-loop μ-loop
+same-length c = c .before .before .loop .inv .1 ∙ c .before .before .before .before .before .before .before .before .before .before .before .before .settle .kept .1 .1 .0
+
+same-length-2 : tie.Need-same-length-2 Inv-loop μ-loop
+same-length-2 c = c .before .before .loop .inv .2 ∙ c .before .before .before .before .before .before .before .before .before .before .before .before .settle .kept .1 .1 .1 .0
+
+same-length-3 : tie.Need-same-length-3 Inv-loop μ-loop
+same-length-3 c = c .before .before .loop .inv .3 ∙ c .before .before .before .before .before .before .settle2 .kept .1 .1 .0
+
+same-length-4 : tie.Need-same-length-4 Inv-loop μ-loop
+same-length-4 c = c .before .before .loop .inv .4 ∙ c .before .before .before .before .before .before .settle2 .kept .1 .1 .1 .0
+
+same-length-5 : tie.Need-same-length-5 Inv-loop μ-loop
+same-length-5 c = c .before .before .loop .inv .5
+
+same-length-6 : tie.Need-same-length-6 Inv-loop μ-loop
+same-length-6 c = c .before .before .loop .inv .6
+
+same-length-7 : tie.Need-same-length-7 Inv-loop μ-loop
+same-length-7 c = c .before .before .loop .inv .7
+
+returns : tie.Need-returns Inv-loop μ-loop
+returns c =
+    let d = c .before .before .before in
+    let l = c .before .before .loop in
+    let past = past-both (l .places .block) (l .places .entry) (sym (c .before .past .ensures) ∙ c .if1 .taken) in
+    merging-past-all (start d .pre) (o d) (ot d) (ov d) (d .before .before .before .before .before .before .before .before .before .settle .ensures) (n d) (nt d) (nv d) (d .before .before .before .settle2 .ensures) (merging-past (l .inv .0) past)
+
+pick-requires : tie.Need-pick-requires Inv-loop μ-loop
+pick-requires c κs = tt
+
+enum-known-picked : tie.Need-enum-known-picked Inv-loop μ-loop
+enum-known-picked c = search needs
+
+enum-told : tie.Need-enum-told Inv-loop μ-loop
+enum-told c = search needs
+
+same-length-8 : tie.Need-same-length-8 Inv-loop μ-loop
+same-length-8 c = c .before .before .before .before .before .before .before .loop .inv .1 ∙ c .before .before .before .before .before .before .before .before .before .before .before .before .before .before .before .before .before .settle .kept .1 .1 .0
+
+same-length-9 : tie.Need-same-length-9 Inv-loop μ-loop
+same-length-9 c = c .before .before .before .before .before .before .before .loop .inv .2 ∙ c .before .before .before .before .before .before .before .before .before .before .before .before .before .before .before .before .before .settle .kept .1 .1 .1 .0
+
+same-length-10 : tie.Need-same-length-10 Inv-loop μ-loop
+same-length-10 c = c .before .before .before .before .before .before .before .loop .inv .3 ∙ c .before .before .before .before .before .before .before .before .before .before .before .settle2 .kept .1 .1 .0
+
+same-length-11 : tie.Need-same-length-11 Inv-loop μ-loop
+same-length-11 c = c .before .before .before .before .before .before .before .loop .inv .4 ∙ c .before .before .before .before .before .before .before .before .before .before .before .settle2 .kept .1 .1 .1 .0
+
+same-length-12 : tie.Need-same-length-12 Inv-loop μ-loop
+same-length-12 c = c .before .before .before .before .before .before .before .loop .inv .5
+
+same-length-13 : tie.Need-same-length-13 Inv-loop μ-loop
+same-length-13 c = c .before .before .before .before .before .before .before .loop .inv .6
+
+same-length-14 : tie.Need-same-length-14 Inv-loop μ-loop
+same-length-14 c = c .before .before .before .before .before .before .before .loop .inv .7
+
+returns-2 : tie.Need-returns-2 Inv-loop μ-loop
+returns-2 c =
+    let d = c .before .before .before .before .before .before .before .before in
+    let l = c .before .before .before .before .before .before .before .loop in
+    let none = subst (PickedAs (l .first) (l .second)) (c .before .before .enum-told .given .1) (c .before .before .before .before .pick .ensures) in
+    merging-all (start d .pre) (o d) (ot d) (ov d) (d .before .before .before .before .before .before .before .before .before .settle .ensures) (n d) (nt d) (nv d) (d .before .before .before .settle2 .ensures) _ _ _ _ _ _ (merging-ends (l .inv .0) none)
+
+push-requires : tie.Need-push-requires Inv-loop μ-loop
+push-requires c κs =
+    let k = c .before .before .before in
+    rw (time-is k) (merging-fits (here k .loop .inv .0) (time k) (pattern k) (first k) (second k) (point k))
+
+advance-requires : tie.Need-advance-requires Inv-loop μ-loop
+advance-requires c κs =
+    let l = c .before .before .before .before .before .before .before .before .before .before .before .before .before .before .before .before .before .loop in
+    let d = c .before .before .before .before .before .before .before .before .before .before .before .before .before .before .before .before .before .before in
+    let p = start d .pre .older-ready in
+    let f = l .inv .0 .older-at in
+    (front-self _ _ _ f, record { stands = f .stands; in-times = omega (arith, l .inv .1, d .before .before .before .before .before .before .before .before .before .settle .kept .1 .1 .0, p .in-times); in-values = omega (arith, l .inv .2, d .before .before .before .before .before .before .before .before .before .settle .kept .1 .1 .1 .0, p .in-values) })
+
+advance-requires-2 : tie.Need-advance-requires-2 Inv-loop μ-loop
+advance-requires-2 c κs =
+    let l = c .before .before .before .before .before .before .before .before .before .before .before .before .before .before .before .before .before .before .before .before .before .before .before .loop in
+    let d = c .before .before .before .before .before .before .before .before .before .before .before .before .before .before .before .before .before .before .before .before .before .before .before .before in
+    let p = start d .pre .newer-ready in
+    let f = l .inv .0 .newer-at in
+    (front-self _ _ _ f, record { stands = f .stands; in-times = omega (arith, l .inv .3, d .before .before .before .settle2 .kept .1 .1 .0, p .in-times); in-values = omega (arith, l .inv .4, d .before .before .before .settle2 .kept .1 .1 .1 .0, p .in-values) })
+
+loop-less : tie.Need-loop-less Inv-loop μ-loop
+loop-less c =
+    let b = c .before .before .before .before .before .before .before .before .before .before .before .before .before .before .before .before .before in
+    let k = read b in
+    omega (
+      arith,
+      merging-less (here k .loop .inv .0) (time k) (pattern k) (first k) (second k) (point k) _ _ _ _ (places-are b) (bytes-are b) (fill-is b)
+          _ _ _ (c .before .before .before .before .before .before .before .before .before .advance .ensures) _ _ _ (c .before .before .before .advance2 .ensures),
+    )
+
+loop-again : tie.Need-loop-again Inv-loop μ-loop
+loop-again c =
+    let b = c .before .before .before .before .before .before .before .before .before .before .before .before .before .before .before .before .before in
+    let k = read b in
+    let l = here k .loop in (
+      merging-goes-on (l .inv .0) (time k) (pattern k) (first k) (second k) (point k) _ _ _ _ (places-are b) (bytes-are b) (fill-is b)
+          _ _ _ (c .before .before .before .before .before .before .before .before .before .advance .ensures) _ _ _ (c .before .before .before .advance2 .ensures) (near k) (b .push .kept .1 .1 .1 .0) (b .push .kept .1 .1 .1 .1 .0),
+      c .before .before .before .before .before .before .before .before .before .advance .kept .1 .1 .1 .0 ∙ l .inv .1,
+      c .before .before .before .before .before .before .before .before .before .advance .kept .1 .1 .1 .1 .0 ∙ l .inv .2,
+      c .before .before .before .advance2 .kept .1 .1 .1 .0 ∙ l .inv .3,
+      c .before .before .before .advance2 .kept .1 .1 .1 .1 .0 ∙ l .inv .4,
+      b .push .kept .0 ∙ l .inv .5,
+      b .push .kept .1 .1 .1 .0 ∙ l .inv .6,
+      b .push .kept .1 .1 .1 .1 .0 ∙ l .inv .7,
+    )
+
+pub merge-points-spec : {M : Type 1} → statement M
+merge-points-spec =
+    tie.close
+    (tie.spec
+    Inv-loop
+    μ-loop
+    settle-requires
+    settle-requires-2
+    loop-holds
+    past-requires
+    same-length
+    same-length-2
+    same-length-3
+    same-length-4
+    same-length-5
+    same-length-6
+    same-length-7
+    returns
+    pick-requires
+    enum-known-picked
+    enum-told
+    same-length-8
+    same-length-9
+    same-length-10
+    same-length-11
+    same-length-12
+    same-length-13
+    same-length-14
+    returns-2
+    push-requires
+    advance-requires
+    advance-requires-2
+    loop-less
+    loop-again)
