@@ -1,4 +1,4 @@
-/* TSM files: check an image, find an entry, read a block or a point, write and unroll images.
+/* TSM files: check an image, find an entry, read a block or a point, write, unroll and merge images.
  *
  * An image is the whole of a TSM file, as bytes in memory; a roll is the plain list of its series. A key is a byte
  * string. Times and values are signed 64-bit numbers; the value of a boolean point is 0 or 1.
@@ -99,6 +99,12 @@ uint8_t tsm_write(const uint8_t *roll, size_t roll_len, uint8_t *out, size_t out
  * image.
  * Refusals: 1 to 16, 19. */
 uint8_t tsm_unroll(const uint8_t *image, size_t image_len, uint8_t *out, size_t out_len, size_t *written);
+
+/* Checks two images in full, and writes the image of their points to the first *written bytes of out: where both have a
+ * point of one key and time, the newer image's. A buffer of TSM_IMAGE_MOST bytes is long enough.
+ * Refusals: 1 to 16 for the older image, 1 to 16 for the newer, 21, 22, 19. */
+uint8_t tsm_merge(const uint8_t *older, size_t older_len, const uint8_t *newer, size_t newer_len,
+                  uint8_t *out, size_t out_len, size_t *written);
 
 #ifdef __cplusplus
 }

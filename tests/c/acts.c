@@ -242,6 +242,18 @@ static uint8_t unroll(Bytes image, size_t out_len, Outs *o)
     return answer;
 }
 
+static uint8_t merge(Bytes older, Bytes newer, size_t out_len, Outs *o)
+{
+    uint8_t *lent_older = exactly(older.bytes, older.len), *lent_newer = exactly(newer.bytes, newer.len);
+    *o = untouched();
+    uint8_t answer = tsm_merge(lent_older, older.len, lent_newer, newer.len, out_len ? o->out : NULL, out_len, &o->written);
+    EXPECT(older.len == 0 || memcmp(lent_older, older.bytes, older.len) == 0);
+    EXPECT(newer.len == 0 || memcmp(lent_newer, newer.bytes, newer.len) == 0);
+    free(lent_older);
+    free(lent_newer);
+    return answer;
+}
+
 /* ---- what is expected */
 
 /* These bytes were written, and nothing past them. */
@@ -448,9 +460,29 @@ static void rolls(void)
     EXPECT(unroll(changed(46, 30), 0, &o) == TSM_TIMES_DIFFER && kept(&o));
 }
 
+static void merges(void)
+{
+    Outs o;
+    Bytes bare = hex("16 D1 16 D1 01 00 00 00 00 00 00 00 05"), none = {.len = 0};
+    Bytes both = image_of(TSM_BOOLEAN, "21 00 00 00 00 00 00 00 00 01 04", "10 04 D0", 0, 30);
+    Bytes newer = image_of(TSM_BOOLEAN, "21 00 00 00 00 00 00 00 0A 02 02", "10 02 C0", 10, 30);
+    Bytes integers = image_of(TSM_INTEGER, "1C FF FF FF FF FF FF FF FB", "10 00 00 00 00 00 00 00 0E", -5, -5);
+    about = "merge";
+    EXPECT(merge(bare, bare, BYTES, &o) == TSM_OK && wrote(o, bare));
+    EXPECT(merge(sample(), bare, BYTES, &o) == TSM_OK && wrote(o, sample()));
+    EXPECT(merge(bare, sample(), sample().len, &o) == TSM_OK && wrote(o, sample()));
+    EXPECT(merge(sample(), sample(), BYTES, &o) == TSM_OK && wrote(o, sample()));
+    EXPECT(merge(sample(), newer, BYTES, &o) == TSM_OK && wrote(o, both));
+    EXPECT(merge(sample(), newer, both.len - 1, &o) == TSM_SHORT_BUFFER && kept(&o));
+    EXPECT(merge(sample(), integers, BYTES, &o) == TSM_KIND_CLASH && kept(&o));
+    EXPECT(merge(none, changed(24, 0xC0), BYTES, &o) == TSM_IMAGE_LENGTH && kept(&o));
+    EXPECT(merge(sample(), changed(24, 0xC0), 0, &o) == TSM_CHECKSUM && kept(&o));
+}
+
 int main(void)
 {
     rolls();
+    merges();
     worked_pieces();
     bare_image();
     damage();

@@ -1,4 +1,4 @@
-//! TSM files: check an image, find an entry, read a block or a point, write and unroll images.
+//! TSM files: check an image, find an entry, read a block or a point, write, unroll and merge images.
 //!
 //! An image is the whole of a TSM file, as bytes; a roll is the plain list of its series. The work is done by the proved static library `libtsm.a`; this crate
 //! gives it Rust's types. It uses only the standard library. The directory of `libtsm.a` is `TSM_LIB_DIR` when the crate
@@ -275,6 +275,34 @@ pub fn unroll(image: &[u8]) -> Result<Vec<u8>, Error> {
 /// Those of [`check`], then [`Error::ShortBuffer`].
 pub fn unroll_into(image: &[u8], out: &mut [u8]) -> Result<usize, Error> {
     sys::unroll(image, out)
+}
+
+/// Merges an older and a newer image: the image of their points, and where both have a point of one key and time, the
+/// newer image's.
+///
+/// # Errors
+///
+/// Those of [`check`] for the older image, then for the newer; [`Error::KindClash`]; [`Error::ImageTooLong`].
+///
+/// ```
+/// let older = std::fs::read("../../examples/booleans.tsm")?;
+/// let newer = tsm::write(b"\x01a\x02\x01\x14\x01")?; // true at 10
+/// let merged = tsm::merge(&older, &newer)?;
+/// assert_eq!(tsm::read_block(&merged, b"a", 10)?.values, [1, 1, 0]);
+/// # Ok::<(), Box<dyn std::error::Error>>(())
+/// ```
+pub fn merge(older: &[u8], newer: &[u8]) -> Result<Vec<u8>, Error> {
+    grown(IMAGE_MOST, |out| merge_into(older, newer, out))
+}
+
+/// Merges an older and a newer image into the front of a slice, and gives the number of bytes of the merged image. Bytes
+/// past it are left as they were; an error leaves all.
+///
+/// # Errors
+///
+/// Those of [`merge`], then [`Error::ShortBuffer`]. A slice of [`IMAGE_MOST`] bytes is always long enough.
+pub fn merge_into(older: &[u8], newer: &[u8], out: &mut [u8]) -> Result<usize, Error> {
+    sys::merge(older, newer, out)
 }
 
 /// What an act writes, in a buffer that is doubled until it is long enough.

@@ -74,6 +74,16 @@ mod c {
             out_len: usize,
             written: *mut usize,
         ) -> u8;
+
+        pub fn tsm_merge(
+            older: *const u8,
+            older_len: usize,
+            newer: *const u8,
+            newer_len: usize,
+            out: *mut u8,
+            out_len: usize,
+            written: *mut usize,
+        ) -> u8;
     }
 }
 
@@ -211,6 +221,23 @@ pub fn unroll(image: &[u8], out: &mut [u8]) -> Result<usize, Error> {
         c::tsm_unroll(
             image.as_ptr(),
             image.len(),
+            out.as_mut_ptr(),
+            out.len(),
+            &mut written,
+        )
+    })?;
+    Ok(written)
+}
+
+pub fn merge(older: &[u8], newer: &[u8], out: &mut [u8]) -> Result<usize, Error> {
+    let mut written = 0;
+    // SAFETY: each pointer and length are a slice's, the one that is written unique; the out parameter is a local.
+    answer(unsafe {
+        c::tsm_merge(
+            older.as_ptr(),
+            older.len(),
+            newer.as_ptr(),
+            newer.len(),
             out.as_mut_ptr(),
             out.len(),
             &mut written,

@@ -1,4 +1,4 @@
-// The C interface of the acts. Floor 8: it stands on reader, finder, writer and unroller.
+// The C interface of the acts. Floor 8: it stands on all of them.
 // Each function returns 0, or the number of a refusal; out parameters are written only on success.
 use format::BlockRead;
 use format::Checked;
@@ -7,7 +7,7 @@ use format::Found;
 use format::PointRead;
 use format::Written;
 ghost use mathlib.Core.Path.{_≡_};
-ghost use Rattle.format.specs.Acts.{checkAnswer, findAnswer, readBlockAnswer, readBlockTimes, readBlockValues, readPointAnswer, writtenSays, writeAnswer, writeBuffer, unrollAnswer, unrollBuffer};
+ghost use Rattle.format.specs.Acts.{checkAnswer, findAnswer, readBlockAnswer, readBlockTimes, readBlockValues, readPointAnswer, writtenSays, writeAnswer, writeBuffer, unrollAnswer, unrollBuffer, mergeAnswer, mergeBuffer};
 ghost use Rattle.tsm.specs.Outs.{numberOf, after, kindOf, minOf, maxOf, offsetOf, sizeOf};
 
 // Checks an image in full, and counts its keys and points.
@@ -183,5 +183,16 @@ pub extern "C" fn tsm_unroll(image: &[u8], out: &mut [u8], written: &mut usize) 
     ensures written { λ r. ⌜ now (written .exit) ≡ after (λ n. n) (unrollAnswer (now (image .entry)) (now (out .entry))) (now (written .entry)) ⌝ }
 {
     let answer = unroller::unroll(image, out);
+    answer_written(answer, written)
+}
+
+// Merges an older and a newer image into a third.
+#[no_mangle]
+pub extern "C" fn tsm_merge(older: &[u8], newer: &[u8], out: &mut [u8], written: &mut usize) -> u8
+    ensures answer { λ r. ⌜ r ≡ numberOf (mergeAnswer (now (older .entry)) (now (newer .entry)) (now (out .entry))) ⌝ }
+    ensures out { λ r. ⌜ now (out .exit) ≡ mergeBuffer (now (older .entry)) (now (newer .entry)) (now (out .entry)) ⌝ }
+    ensures written { λ r. ⌜ now (written .exit) ≡ after (λ n. n) (mergeAnswer (now (older .entry)) (now (newer .entry)) (now (out .entry))) (now (written .entry)) ⌝ }
+{
+    let answer = merge::merge(older, newer, out);
     answer_written(answer, written)
 }
