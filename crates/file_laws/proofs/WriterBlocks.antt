@@ -28,8 +28,8 @@ use Rattle.format.specs.Writer.{writerEntries}
 use Rattle.format.proofs.AllBelow.{each-below}
 use Rattle.format.proofs.Lists.{each-map, each-image, every-each, each-flatMap, ascends-map}
 use Rattle.section_laws.proofs.Differences.{inRange, Times}
-use Rattle.section_laws.proofs.Timestamps.{readTimes-section, timesSection-least, timesSection-bytes}
-use Rattle.section_laws.proofs.BlockLengths.{valuesSection-least}
+use Rattle.section_laws.proofs.Timestamps.{readTimes-section, timesSection-some, timesSection-bytes}
+use Rattle.section_laws.proofs.BlockLengths.{valuesSection-some}
 use Rattle.section_laws.proofs.Integers.{readIntegers-section, integersSection-bytes}
 use Rattle.merging.proofs.Sorted.{Ascending, ascends-ascending}
 use Rattle.merging.proofs.Orders.{byTime}
@@ -140,8 +140,8 @@ module _ (kind : Kind) (ps : List Point) (sized : Sized ps) (good : Each (GoodPo
         values = valuesSection kind vs;
         bytes = rw (append-assoc T (timesSection ts) (valuesSection kind vs));
         size = refl;
-        timesSome = omega (arith, timesSection-least ts some);
-        valuesSome = valuesSection-least kind vs (omega arith);
+        timesSome = timesSection-some ts some;
+        valuesSome = valuesSection-some kind vs (omega arith);
         timesSection = times-laid ts times-good;
         valuesSection = values-laid kind vs (omega arith) (omega arith)
             (each-image (λ v. goodValue kind v ≡ true) (λ p. p .value) ps .1 (each-map (λ p g. g .value) ps good));
