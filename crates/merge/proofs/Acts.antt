@@ -3,11 +3,13 @@
 --   merge-older, merge-newer, merge-clash, merge-fits   the answer, by the checks and the kinds
 --   merged-good                        the merge has good series
 --   answer-long, answer-left           22, or what `judge` refuses
---   second-room, second-ends, finish-asks, answer-laid   the image is laid
+--   image-fits, answer-laid            the image is laid
+--   second-room, second-ends, finish-asks, image-laid   by the second pass
 use Prim.Native.Nat.{ℕ, _+_, _≤_}
 use mathlib.Core.Path.{_≡_, refl, ap, sym, subst, _∙_}
-use mathlib.Core.Bool.{Bool, true, false}
+use mathlib.Core.Bool.{true, false}
 use mathlib.Core.List.{List, [], _∷_, _++_}
+use native.Mathlib.Nat.{zero-add}
 use native.Mathlib.Omega.{arith}
 use lib.ListN.{length}
 use Rattle.format.specs.declared.Refusal.{Refusal}
@@ -21,21 +23,22 @@ use Rattle.format.specs.Bytes.{bigBytes, overwrite, splice, AllBytes}
 use Rattle.format.specs.Meaning.{Meaning, seriesBefore}
 use Rattle.format.specs.WellFormed.{goodSeries, wellFormed}
 use Rattle.format.specs.File.{magic, version, readFile}
-use Rattle.format.specs.Writer.{writerImage}
-use Rattle.format.specs.Merge.{merge, kindsClash}
+use Rattle.format.specs.Writer.{writerIndex, writerImage}
+use Rattle.format.specs.Merge.{kindsClash}
 use Rattle.format.specs.Acts.{laid, imageResult, mergeResult, mergeAnswer, mergeBuffer, writtenSays, sized, checkResult, checkAnswer, checkedSays}
 use Rattle.format.proofs.Answers.{refuses-path}
 use Rattle.format.proofs.Tests.{both-left}
 use Rattle.file_laws.proofs.FilesAccepted.{file-accepted}
 use Rattle.merging.proofs.MergeLaws.{merge-wellFormed}
-use Rattle.builder.specs.Steps.{Closed}
+use Rattle.builder.specs.Steps.{Closed, seriesEnd}
 use Rattle.builder.specs.Passes.{SeriesRoom, Past}
+use Rattle.builder.proofs.Futures.{closed-same}
 use Rattle.builder.proofs.Images.{measured-past, measured, lay-room, never-past, footer-room, image-done}
 use Rattle.feed.proofs.Keys.{ok-of}
 use Rattle.writer.specs.Judging.{judged}
 use Rattle.writer.proofs.Judges.{Answers, judged-answers, judged-long}
 use Rattle.merge.specs.Turns.{meaningOf, mergedOf}
-use Rattle.merge.specs.Adding.{allClosed}
+use Rattle.merge.specs.Adding.{allClosed, Measured}
 use Rattle.merge.proofs.Passes.{meaning-is}
 
 -- ---- the full check of an image
@@ -133,18 +136,33 @@ module _ (older newer out : List ℕ) where
       over : (length (writerImage m) ≤ imageMost) × (length (writerImage m) ≤ length out) × (laid (imageResult m out) out ≡ overwrite (writerImage m) out)
       over = answers .laid-over n (sym is-judged ∙ e)
 
-      pub second-room : SeriesRoom m headerSize block out
-      second-room = lay-room m block entry bytes lent c out (over .0) (over .1)
+      pub image-fits : Measured m block out
+      unfolding seriesEnd
+      image-fits = record { blocks = ap (λ (x : Closed). x .block) c; short = over .0; fits = over .1 }
 
-      pub second-ends : Past (allClosed true older newer block out) → ⊥
-      second-ends h = never-past m block entry bytes lent c out (over .0) (over .1) h
+      pub answer-laid : (done : List ℕ) → done ≡ overwrite (writerImage m) out → Says (Written.Bytes n) done
+      answer-laid done f = (ap writtenSays (sym e ∙ is-judged) ∙ answers .says, f ∙ sym (over .2))
 
-      module _ (last end : ℕ) (after : List ℕ) (d : _≡_ {A = Closed} (record { block = last; entry = end; bytes = after }) (allClosed true older newer block out)) where
-        pub finish-asks : (headerSize ≤ end) × (end + footerSize ≤ length out)
-        finish-asks = footer-room m block entry bytes lent c out (over .0) (over .1) last end after d
+-- ---- the second pass
 
-        pub answer-laid : (done : List ℕ) → done ≡ splice end (bigBytes 8 block) (splice 0 (magic ++ (version ∷ [])) after) → Says (Written.Bytes n) done
-        answer-laid done f = (
-          ap writtenSays (sym e ∙ is-judged) ∙ answers .says,
-          image-done m block entry bytes lent c out (over .0) (over .1) last end after d done f ∙ sym (over .2),
-        )
+module _ (m : Meaning) (block : ℕ) (out : List ℕ) (h : Measured m block out) where
+  abbrev entry : ℕ
+  entry = length (writerIndex headerSize m)
+
+  -- what the first pass gave
+  given : _≡_ {A = Closed} (record { block = block; entry = entry; bytes = [] }) (seriesEnd false m headerSize 0 [])
+  unfolding seriesEnd
+  given = closed-same (h .blocks) (sym (zero-add entry)) refl
+
+  pub second-room : SeriesRoom m headerSize block out
+  second-room = lay-room m block entry [] [] given out (h .short) (h .fits)
+
+  pub second-ends : Past (seriesEnd true m headerSize block out) → ⊥
+  second-ends past = never-past m block entry [] [] given out (h .short) (h .fits) past
+
+  module _ (last end : ℕ) (after : List ℕ) (d : _≡_ {A = Closed} (record { block = last; entry = end; bytes = after }) (seriesEnd true m headerSize block out)) where
+    pub finish-asks : (headerSize ≤ end) × (end + footerSize ≤ length out)
+    finish-asks = footer-room m block entry [] [] given out (h .short) (h .fits) last end after d
+
+    pub image-laid : (done : List ℕ) → done ≡ splice end (bigBytes 8 block) (splice 0 (magic ++ (version ∷ [])) after) → done ≡ overwrite (writerImage m) out
+    image-laid done f = image-done m block entry [] [] given out (h .short) (h .fits) last end after d done f

@@ -6,11 +6,10 @@
 --   first-turn, second-turn, both-turn, ordered-turn   which key is next
 use Prim.Native.Nat.{ℕ, _+_, _≤_, _<_}
 use mathlib.Core.Path.{_≡_, refl, ap, ap₂, sym, subst, _∙_}
-use mathlib.Core.Bool.{Bool, true, false, not, _||_}
+use mathlib.Core.Bool.{Bool, true, false, _||_}
 use mathlib.Core.List.{List, [], _∷_}
 use native.Mathlib.Omega.{arith}
 use lib.ListN.{length}
-use Rattle.format.specs.declared.Kind.{Kind}
 use Rattle.format.specs.Choice.{if_then_else_}
 use Rattle.format.specs.KeyOrder.{keyBefore}
 use Rattle.format.specs.Meaning.{Point, Series, Meaning}
@@ -18,7 +17,6 @@ use Rattle.format.specs.Merge.{mergePoints, merge, kindsClash}
 use Rattle.format.proofs.Orders.{key-total}
 use Rattle.merging.proofs.Sorted.{Ascending}
 use Rattle.merging.proofs.Orders.{byKey}
-use Rattle.merging.proofs.MergeLaws.{merge-empty}
 use Rattle.merging.proofs.Walk.{points-end, series-older, series-newer, series-both, clash-older, clash-newer, clash-both, clash-end}
 use Rattle.feed.specs.declared.Feed.{Feed}
 use Rattle.feed.specs.Feeds.{keyOf, blocksLeft, seriesLeft, openSeries, Stands, Done, KeyOpened}

@@ -3,21 +3,20 @@
 --   pick-older, pick-newer, pick-both            by the times
 --   front-point, front-end, front-start          what a step of a feed says of a front
 use Prim.Native.Nat.{ℕ}
-use mathlib.Core.Path.{_≡_, refl, ap, sym, subst, _∙_}
-use mathlib.Core.Bool.{Bool, true, false}
-use mathlib.Core.List.{List, [], _∷_}
+use mathlib.Core.Path.{_≡_, refl, sym, _∙_}
+use mathlib.Core.Bool.{true, false}
+use mathlib.Core.List.{List, []}
 use native.Mathlib.Omega.{arith}
 use lib.IntN.{ℤ}
 use lib.Signed.{ltZ}
 use Rattle.format.specs.Meaning.{Point, pointOf}
-use Rattle.format.specs.Merge.{mergePoints}
 use Rattle.format.proofs.Orders.{time-total}
-use Rattle.merging.proofs.Walk.{points-end, points-older, points-newer, points-both}
+use Rattle.merging.proofs.Walk.{points-older, points-newer, points-both}
 use Rattle.feed.specs.declared.Feed.{Feed}
-use Rattle.feed.specs.Feeds.{pointsLeft, seriesLeft, Stands, Done, Kept, PointTaken, BlockTaken}
+use Rattle.feed.specs.Feeds.{pointsLeft, seriesLeft, Stands, Done, PointTaken}
 use Rattle.merge.specs.declared.Front.{Front}
 use Rattle.merge.specs.declared.Picked.{Picked}
-use Rattle.merge.specs.Fronts.{fronted, frontPoint, leftOf, PickedAs, FrontAt, FrontHas}
+use Rattle.merge.specs.Fronts.{frontPoint, leftOf, PickedAs, FrontAt, FrontHas}
 
 -- the picks of the older's point, of the newer's, and of both
 abbrev pub olderPick : Front → Picked

@@ -6,7 +6,7 @@
 --   points-added, points-past                    what adding them answers, by cases
 use Prim.Native.Nat.{ℕ, _≤_}
 use mathlib.Core.Path.{_≡_, refl, ap, sym, subst, _∙_}
-use mathlib.Core.Bool.{Bool, true, false}
+use mathlib.Core.Bool.{Bool, false}
 use mathlib.Core.List.{List, [], _∷_}
 use lib.IntN.{ℤ}
 use lib.ListN.{length}
@@ -20,12 +20,12 @@ use Rattle.builder.specs.Steps.{PushFits, Closed, fuller, pushPlaces, pushBytes
 use Rattle.builder.specs.Passes.{Near, Filling, Past}
 use Rattle.builder.proofs.Passes.{past-key, push-fits, push-filling, push-same}
 use Rattle.feed.specs.declared.Feed.{Feed}
-use Rattle.feed.specs.Feeds.{pointsLeft, seriesLeft}
+use Rattle.feed.specs.Feeds.{pointsLeft}
 use Rattle.writer.specs.Adding.{closedKey}
 use Rattle.merge.specs.declared.Front.{Front}
 use Rattle.merge.specs.declared.Picked.{Picked}
 use Rattle.merge.specs.declared.PointsAdded.{PointsAdded}
-use Rattle.merge.specs.Fronts.{fronted, frontPoint, leftOf, frontPoints, PickedAs, FrontAt, FrontHas}
+use Rattle.merge.specs.Fronts.{leftOf, frontPoints, PickedAs, FrontAt, FrontHas}
 use Rattle.merge.specs.Turns.{KeyDone}
 use Rattle.merge.specs.Adding.{mergedPoints, PointsReady, AllAdded, PointsAddedAs}
 

@@ -2,30 +2,25 @@
 --   begin-asks     its key can be opened
 --   points-ready   its points can be added
 --   series-added, series-past   what adding it answers, by what adding its points answers
---   one-added, one-past         what adding it answers, by cases
 use Prim.Native.Nat.{ℕ, _+_, _≤_}
 use mathlib.Core.Path.{_≡_, refl, ap, sym, subst, _∙_}
-use mathlib.Core.Bool.{Bool, true}
-use mathlib.Core.List.{List, [], _∷_}
+use mathlib.Core.Bool.{Bool}
+use mathlib.Core.List.{List, []}
 use native.Mathlib.Omega.{arith}
 use lib.IntN.{ℤ}
 use lib.ListN.{length}
-use Rattle.format.specs.declared.Kind.{Kind}
 use Rattle.format.specs.Limits.{keyMost}
 use Rattle.format.specs.Meaning.{Point, Series, Meaning}
-use Rattle.format.specs.Merge.{mergePoints}
 use Rattle.builder.specs.declared.Places.{Places}
 use Rattle.numbers.specs.Laying.{lay, Room}
 use Rattle.builder.specs.Steps.{PlacesFit, Closed, keyEnd, seriesEnd, headBytes, beginPlaces}
-use Rattle.builder.specs.Passes.{Filling, SeriesRoom, Past}
+use Rattle.builder.specs.Passes.{Filling, Past}
 use Rattle.builder.proofs.SeriesPasses.{good-key, begin-room, begin-filling, series-same, series-room, past-series}
 use Rattle.feed.specs.declared.Feed.{Feed}
-use Rattle.feed.specs.Feeds.{blocksLeft, pointsLeft}
 use Rattle.feed.proofs.Cells.{points-blocks}
 use Rattle.writer.specs.Adding.{closedKey}
-use Rattle.merge.specs.declared.SeriesAdded.{SeriesAdded}
-use Rattle.merge.specs.Turns.{chosenKey, chosenKind, KeyDone}
-use Rattle.merge.specs.Adding.{mergedPoints, PointsReady, nextSeries, later, SeriesReady, openClosed, OneAdded, SeriesAddedAs}
+use Rattle.merge.specs.Turns.{KeyDone}
+use Rattle.merge.specs.Adding.{mergedPoints, PointsReady, closedAt, nextSeries, later, SeriesReady, openClosed, OneAdded}
 
 module _ {second : Bool} {older : List ℕ} {x : Feed} {olderTimes : List ℤ} {olderValues : List ℕ}
     {newer : List ℕ} {y : Feed} {newerTimes : List ℤ} {newerValues : List ℕ}
@@ -38,7 +33,7 @@ module _ {second : Bool} {older : List ℕ} {x : Feed} {olderTimes : List ℤ} {
   rest = later older x newer y
 
   abbrev places : Places
-  places = record { block = b; entry = e; filled = 0; blocks = 0; count = 0 }
+  places = closedAt b e
 
   pub begin-asks : (length (one .key) ≤ keyMost) × PlacesFit places × Room laying (e + length (one .key) + 5) out
   begin-asks = (
@@ -86,12 +81,3 @@ module _ {second : Bool} {older : List ℕ} {x : Feed} {olderTimes : List ℤ} {
               ap (λ (c : Closed). seriesEnd laying rest (c .block) (c .entry) (c .bytes)) is
               ∙ series-same laying one rest places out (h .room);
         }
-
--- ---- what adding it answers
-
-module _ (older : List ℕ) (x : Feed) (newer : List ℕ) (y : Feed) (laying : Bool) (whole : Closed) (r : SeriesAdded) (out : List ℕ) where
-  pub one-added : (x′ y′ : Feed) (b e : ℕ) → r ≡ SeriesAdded.Series x′ y′ b e → SeriesAddedAs older x newer y laying whole r out → OneAdded older x newer y laying whole x′ y′ b e out
-  one-added x′ y′ b e f h = subst (λ (z : SeriesAdded). SeriesAddedAs older x newer y laying whole z out) f h
-
-  pub one-past : r ≡ SeriesAdded.TooLong → SeriesAddedAs older x newer y laying whole r out → Past whole
-  one-past f h = subst (λ (z : SeriesAdded). SeriesAddedAs older x newer y laying whole z out) f h

@@ -2,15 +2,15 @@
 --   entry-skipped   the feed past it
 --   none-skipped    where none is left, the feed stays
 use Prim.Native.Nat.{ℕ, _-_, _<_, zero-le}
-use mathlib.Core.Path.{_≡_, refl, ap, subst, _∙_}
-use mathlib.Core.List.{List, _∷_}
+use mathlib.Core.Path.{_≡_, refl, ap, subst}
+use mathlib.Core.List.{List}
 use native.Mathlib.Omega.{arith}
 use Rattle.format.specs.declared.Entry.{Entry}
 use Rattle.format.specs.Refusals.{ok}
 use Rattle.format.specs.File.{readBlocks}
 use Rattle.index.specs.declared.Cursor.{Cursor}
 use Rattle.index.specs.declared.Step.{Step}
-use Rattle.index.specs.Cursors.{stepAt, entryAt, past}
+use Rattle.index.specs.Cursors.{stepAt}
 use Rattle.index.proofs.Steps.{on-entry, good-entry}
 use Rattle.index.proofs.Taken.{entry-past}
 use Rattle.feed.specs.declared.Feed.{Feed}

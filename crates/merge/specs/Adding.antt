@@ -2,8 +2,11 @@
 --   mergedPoints, nextSeries   the merged points of the open key, and its series
 --   PointsReady, PointsAddedAs   the points of a key
 --   SeriesReady, SeriesAddedAs   a series
---   PassReady, allClosed, PassedAs   all series
-use Prim.Native.Nat.{ℕ, _≤_}
+--   Lent             cells for the blocks
+--   Passing, laterClosed, NextAddedAs   between two series
+--   MergeReady, PassReady, allClosed, PassedAs   all series
+--   Measured         the image that is laid
+use Prim.Native.Nat.{ℕ, _+_, _≤_, _<_}
 use mathlib.Core.Path.{_≡_}
 use mathlib.Core.Bool.{Bool, true}
 use mathlib.Core.List.{List, [], _∷_}
@@ -16,13 +19,15 @@ use Rattle.format.specs.File.{accepted}
 use Rattle.format.specs.Meaning.{Point, Series, Meaning}
 use Rattle.format.specs.WellFormed.{goodSeries}
 use Rattle.format.specs.Merge.{mergePoints, merge}
+use Rattle.format.specs.Writer.{writerBlocks, writerImage}
 use Rattle.builder.specs.declared.Places.{Places}
 use Rattle.builder.specs.Steps.{Closed, seriesEnd}
 use Rattle.builder.specs.Passes.{Filling, SeriesRoom, Past}
 use Rattle.feed.specs.declared.Feed.{Feed}
-use Rattle.feed.specs.Feeds.{blocksLeft, pointsLeft, seriesLeft}
+use Rattle.feed.specs.Feeds.{blocksLeft, pointsLeft, seriesLeft, Stands, Done}
 use Rattle.writer.specs.Adding.{closedKey}
 use Rattle.merge.specs.declared.PointsAdded.{PointsAdded}
+use Rattle.merge.specs.declared.Spot.{Spot}
 use Rattle.merge.specs.declared.SeriesAdded.{SeriesAdded}
 use Rattle.merge.specs.declared.Passed.{Passed}
 use Rattle.merge.specs.Fronts.{SideReady}
@@ -71,6 +76,10 @@ nextSeries second older x newer y = record {
 abbrev pub later : (older : List ℕ) → (x : Feed) → (newer : List ℕ) → (y : Feed) → Meaning
 later older x newer y = merge (seriesLeft older x) (seriesLeft newer y)
 
+-- the places before a key is opened
+abbrev pub closedAt : (b e : ℕ) → Places
+closedAt b e = record { block = b; entry = e; filled = 0; blocks = 0; count = 0 }
+
 pub record SeriesReady (second : Bool) (older : List ℕ) (x : Feed) (olderTimes : List ℤ) (olderValues : List ℕ)
     (newer : List ℕ) (y : Feed) (newerTimes : List ℤ) (newerValues : List ℕ)
     (laying : Bool) (b e : ℕ) (times : List ℤ) (values out : List ℕ) : Type 0 where
@@ -96,22 +105,56 @@ pub record OneAdded (older : List ℕ) (x : Feed) (newer : List ℕ) (y : Feed) 
   pub same : seriesEnd laying (later older x newer y) b e out ≡ whole
 
 abbrev pub SeriesAddedAs : (older : List ℕ) → (x : Feed) → (newer : List ℕ) → (y : Feed) → (laying : Bool) → (whole : Closed) → SeriesAdded → (out : List ℕ) → Type 0
-SeriesAddedAs older x newer y laying whole (SeriesAdded.Series x′ y′ b e) out = OneAdded older x newer y laying whole x′ y′ b e out
+SeriesAddedAs older x newer y laying whole (SeriesAdded.Series z) out = OneAdded older x newer y laying whole (z .older) (z .newer) (z .block) (z .entry) out
+SeriesAddedAs older x newer y laying whole SeriesAdded.End out = ⊥
 SeriesAddedAs older x newer y laying whole SeriesAdded.TooLong out = Past whole
 
 -- ---- all series
 
-pub record PassReady (older : List ℕ) (olderTimes : List ℤ) (olderValues : List ℕ) (newer : List ℕ) (newerTimes : List ℤ) (newerValues : List ℕ)
-    (laying : Bool) (index : ℕ) (times : List ℤ) (values out : List ℕ) : Type 0 where
-  pub older-good : accepted older ≡ true
-  pub newer-good : accepted newer ≡ true
+-- cells for a block of each image, and for the fill
+pub record Lent (olderTimes : List ℤ) (olderValues : List ℕ) (newerTimes : List ℤ) (newerValues : List ℕ) (times : List ℤ) (values : List ℕ) : Type 0 where
   pub older-times : readBlockMost ≤ length olderTimes
   pub older-values : readBlockMost ≤ length olderValues
   pub newer-times : readBlockMost ≤ length newerTimes
   pub newer-values : readBlockMost ≤ length newerValues
   pub in-times : writerBlockMost ≤ length times
   pub in-values : writerBlockMost ≤ length values
+
+-- between two series
+pub record Passing (laying : Bool) (older newer : List ℕ) (z : Spot) (out : List ℕ) : Type 0 where
+  pub older-stands : Stands older (z .older)
+  pub older-done : Done (z .older)
+  pub newer-stands : Stands newer (z .newer)
+  pub newer-done : Done (z .newer)
+  pub good : every goodSeries (later older (z .older) newer (z .newer)) ≡ true
+  pub room : laying ≡ true → SeriesRoom (later older (z .older) newer (z .newer)) (z .block) (z .entry) out
+
+-- what the series to come come to
+abbrev pub laterClosed : (laying : Bool) → (older newer : List ℕ) → Spot → (out : List ℕ) → Closed
+laterClosed laying older newer z out = seriesEnd laying (later older (z .older) newer (z .newer)) (z .block) (z .entry) out
+
+-- the series after a spot
+abbrev pub seriesCount : (older newer : List ℕ) → Spot → ℕ
+seriesCount older newer z = length (seriesLeft older (z .older)) + length (seriesLeft newer (z .newer))
+
+pub record NextAdded (laying : Bool) (older newer : List ℕ) (z : Spot) (old : List ℕ) (z′ : Spot) (out : List ℕ) : Type 0 where
+  pub passing : Passing laying older newer z′ out
+  pub same : laterClosed laying older newer z′ out ≡ laterClosed laying older newer z old
+  pub less : seriesCount older newer z′ < seriesCount older newer z
+
+abbrev pub NextAddedAs : (laying : Bool) → (older newer : List ℕ) → Spot → (old : List ℕ) → SeriesAdded → (out : List ℕ) → Type 0
+NextAddedAs laying older newer z old (SeriesAdded.Series z′) out = NextAdded laying older newer z old z′ out
+NextAddedAs laying older newer z old SeriesAdded.End out = _≡_ {A = Closed} (record { block = z .block; entry = z .entry; bytes = out }) (laterClosed laying older newer z old)
+NextAddedAs laying older newer z old SeriesAdded.TooLong out = Past (laterClosed laying older newer z old)
+
+-- two accepted images whose merge has good series
+pub record MergeReady (older newer : List ℕ) : Type 0 where
+  pub older-good : accepted older ≡ true
+  pub newer-good : accepted newer ≡ true
   pub good : every goodSeries (mergedOf older newer) ≡ true
+
+pub record PassReady (older newer : List ℕ) (laying : Bool) (index : ℕ) (out : List ℕ) : Type 0 where
+  pub ready : MergeReady older newer
   pub room : laying ≡ true → SeriesRoom (mergedOf older newer) headerSize index out
 
 -- what all series come to
@@ -121,3 +164,9 @@ allClosed laying older newer index out = seriesEnd laying (mergedOf older newer)
 abbrev pub PassedAs : (whole : Closed) → Passed → (out : List ℕ) → Type 0
 PassedAs whole (Passed.Ended b e) out = _≡_ {A = Closed} (record { block = b; entry = e; bytes = out }) whole
 PassedAs whole Passed.TooLong out = Past whole
+
+-- the blocks of an image end at `block`, and it fits
+pub record Measured (m : Meaning) (block : ℕ) (out : List ℕ) : Type 0 where
+  pub blocks : block ≡ headerSize + length (writerBlocks m)
+  pub short : length (writerImage m) ≤ imageMost
+  pub fits : length (writerImage m) ≤ length out

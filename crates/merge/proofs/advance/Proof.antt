@@ -1,6 +1,5 @@
 -- `advance` meets its contract: where the point was taken, the feed past it is settled.
 use borrow.Author.Needs.{needs}
-use mathlib.Core.Path.{_≡_, refl, sym, _∙_}
 use Rattle.merge.proofs.Picks.{front-stays}
 use Rattle.merge.proofs.advance.Statement.{statement}
 use Rattle.merge.proofs.advance.Tie as tie

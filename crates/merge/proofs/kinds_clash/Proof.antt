@@ -1,8 +1,8 @@
 -- `kinds_clash` meets its contract: what is left to ask of the kinds is what was to ask at first.
 use borrow.Author.Needs.{needs}
 use Prim.Native.Nat.{_+_}
-use mathlib.Core.Path.{_≡_, refl, sym, ap, ap₂, subst, _∙_}
-use mathlib.Core.Bool.{Bool, true, false, _||_}
+use mathlib.Core.Path.{_≡_, sym, ap, ap₂, subst, _∙_}
+use mathlib.Core.Bool.{Bool, _||_}
 use native.Mathlib.Omega.{arith}
 use lib.ListN.{length}
 use Rattle.format.specs.Merge.{kindsClash}
@@ -10,10 +10,9 @@ use Rattle.merging.proofs.Sorted.{Ascending}
 use Rattle.merging.proofs.Orders.{byKey}
 use Rattle.feed.specs.declared.Feed.{Feed}
 use Rattle.feed.specs.Feeds.{seriesLeft, Stands, Done}
-use Rattle.merge.specs.declared.Turn.{Turn}
 use Rattle.merge.specs.Turns.{meaningOf, TurnTaken, TurnAs, differs}
 use Rattle.merge.proofs.Keys.{Turned, turned, clash-turn, still-up, clash-none}
-use Rattle.merge.proofs.Passes.{Started, started}
+use Rattle.merge.proofs.Passes.{started}
 use Rattle.merge.proofs.kinds_clash.Statement.{statement}
 use Rattle.merge.proofs.kinds_clash.Tie as tie
 

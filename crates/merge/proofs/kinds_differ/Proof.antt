@@ -1,6 +1,6 @@
 -- `kinds_differ` meets its contract: where both have the key, the bytes of its kinds are compared.
 use borrow.Author.Needs.{needs}
-use mathlib.Core.Path.{_≡_, refl, sym, _∙_}
+use mathlib.Core.Path.{_≡_, refl}
 use mathlib.Core.Bool.{true, false}
 use borrow.Author.Tests.{not-true, not-false}
 use Rattle.merge.proofs.kinds_differ.Statement.{statement}

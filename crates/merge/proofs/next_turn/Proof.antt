@@ -1,9 +1,8 @@
 -- `next_turn` meets its contract: the next key of each image, and of two the first.
 use borrow.Author.Needs.{needs}
-use mathlib.Core.Path.{_≡_, refl, sym, subst, _∙_}
-use Rattle.feed.specs.declared.Feed.{Feed}
+use mathlib.Core.Path.{_≡_, refl, sym, subst}
 use Rattle.feed.specs.declared.NextKey.{NextKey}
-use Rattle.feed.specs.Feeds.{OnKey, KeyOpened}
+use Rattle.feed.specs.Feeds.{OnKey}
 use Rattle.merge.specs.Turns.{TurnAs}
 use Rattle.merge.proofs.Keys.{before-none, ordered-turn}
 use Rattle.merge.proofs.next_turn.Statement.{statement}

@@ -1,9 +1,6 @@
 -- `order_keys` meets its contract: the keys are compared both ways.
 use borrow.Author.Needs.{needs}
-use Prim.Native.Nat.{ℕ}
 use mathlib.Core.Path.{_≡_, refl, sym, ap₂, _∙_}
-use mathlib.Core.Bool.{Bool}
-use mathlib.Core.List.{List}
 use Rattle.format.specs.KeyOrder.{keyBefore}
 use Rattle.feed.specs.Feeds.{keyOf}
 use Rattle.merge.proofs.order_keys.Statement.{statement}

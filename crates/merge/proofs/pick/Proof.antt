@@ -1,5 +1,4 @@
 -- `pick` meets its contract: by which fronts have a point, and by their times.
-use borrow.Author.Needs.{needs}
 use Prim.Native.Nat.{_^_, _<_}
 use mathlib.Core.Path.{_≡_}
 use native.Mathlib.Omega.{arith}

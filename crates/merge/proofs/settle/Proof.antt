@@ -1,6 +1,6 @@
 -- `settle` meets its contract: the points to come stay the same from block to block.
 use borrow.Author.Needs.{needs}
-use Prim.Native.Nat.{ℕ, _+_, _-_, _^_, _≤_, _<_}
+use Prim.Native.Nat.{ℕ, _-_, _^_, _<_}
 use mathlib.Core.Path.{_≡_, refl, sym, subst, _∙_}
 use mathlib.Core.List.{List}
 use native.Mathlib.Omega.{arith}
@@ -10,8 +10,7 @@ use lib.Signed.{mag}
 use mir.Syntax.{w64}
 use mir.Val.{toZ, ofZ}
 use mir.ValLaws.{toZ-ofZ}
-use Rattle.format.specs.Limits.{imageMost, readBlockMost}
-use Rattle.feed.specs.declared.Feed.{Feed}
+use Rattle.format.specs.Limits.{imageMost}
 use Rattle.feed.specs.declared.NextPoint.{NextPoint}
 use Rattle.feed.specs.Feeds.{pointsLeft, seriesLeft, Stands, OnPoint}
 use Rattle.merge.proofs.Picks.{front-point, front-end}

@@ -1,5 +1,4 @@
 -- `skip_entries` meets its contract: the series after the open key stay the same.
-use borrow.Author.Needs.{needs}
 use Prim.Native.Nat.{_≤_}
 use mathlib.Core.Path.{_≡_, refl, _∙_}
 use native.Mathlib.Omega.{arith}

@@ -1,18 +1,16 @@
 -- `skip_entry` meets its contract: a step that takes an entry leads past it.
 use borrow.Author.Needs.{needs}
 use Prim.Native.Nat.{ℕ, zero, suc}
-use mathlib.Core.Path.{_≡_, refl, ap, sym, subst, _∙_}
+use mathlib.Core.Path.{_≡_, refl, sym, subst, _∙_}
 use mathlib.Core.Logic.{⊎-elim}
-use mathlib.Core.List.{List, [], _∷_}
+use mathlib.Core.List.{[], _∷_}
 use native.Mathlib.Omega.{arith}
 use denote.Enum.Declared.{tagOf}
 use types.Run.{OneOf}
 use Rattle.format.specs.declared.Entry.{Entry}
 use Rattle.index.specs.declared.Cursor.{Cursor}
 use Rattle.index.specs.declared.Step.{Step}
-use Rattle.index.specs.Cursors.{stepAt}
 use Rattle.index.proofs.Step.{the-type}
-use Rattle.index.specs.Frames.{indexPart}
 use Rattle.feed.proofs.Standing.{starts}
 use Rattle.feed.proofs.Blocks.{block-step}
 use Rattle.merge.specs.Turns.{EntrySkipped}
