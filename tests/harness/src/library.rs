@@ -75,7 +75,6 @@ mod c {
             written: *mut usize,
         ) -> u8;
 
-        #[cfg(feature = "merge")]
         pub fn tsm_merge(
             older: *const u8,
             older_len: usize,
@@ -174,7 +173,6 @@ impl Acts for Library {
         unsafe { c::tsm_unroll(image.as_ptr(), image.len(), out, out_len, written) }
     }
 
-    #[cfg(feature = "merge")]
     fn merge(&self, older: &[u8], newer: &[u8], out: &mut [u8], written: &mut usize) -> u8 {
         unsafe {
             c::tsm_merge(
@@ -187,12 +185,6 @@ impl Acts for Library {
                 written,
             )
         }
-    }
-
-    /// The library has no merge yet: the reference's stands in, and tests nothing of the library.
-    #[cfg(not(feature = "merge"))]
-    fn merge(&self, older: &[u8], newer: &[u8], out: &mut [u8], written: &mut usize) -> u8 {
-        crate::acts::Reference.merge(older, newer, out, written)
     }
 }
 
