@@ -1,9 +1,8 @@
 -- The next key of two images: the merge of what is left begins with its series, and the kinds are asked of it.
---   none-held, none-left          an image that has not the key has no point of it
+--   older-first, newer-first, clash-first, clash-second   a series before all of the other image
 --   Turned, turned                the next series of the merge, and those after it
---   turn-end                      no series is left
---   clash-turn, clash-none        the kinds
---   first-turn, second-turn, both-turn, ordered-turn   which key is next
+--   clash-turn, still-up, clash-none   the kinds
+--   before-none, ordered-turn     which key is next
 use Prim.Native.Nat.{ℕ, _+_, _≤_, _<_}
 use mathlib.Core.Path.{_≡_, refl, ap, ap₂, sym, subst, _∙_}
 use mathlib.Core.Bool.{Bool, true, false, _||_}
@@ -44,10 +43,6 @@ clash-second : (u : Series) (m n : Meaning) → Before (u .key) m → Ascending 
 unfolding kindsClash
 clash-second u [] n h a = refl
 clash-second u (s ∷ m) n h a = clash-newer s u m n h a
-
--- a series with other points
-same-points : (s : Series) (ps : List Point) → s .points ≡ ps → s ≡ record { key = s .key; kind = s .kind; points = ps }
-same-points s ps e = rw (← e) refl
 
 -- ---- the next key at x and y
 
@@ -146,7 +141,7 @@ clash-none m n e h = ap (kindsClash m) h ∙ clash-end m
 -- ---- which key is next
 
 -- the first of some series, by its key
-pub before-head : (key : List ℕ) (m n : Meaning) (s : Series) → m ≡ s ∷ n → keyBefore key (s .key) ≡ true → Before key m
+before-head : (key : List ℕ) (m n : Meaning) (s : Series) → m ≡ s ∷ n → keyBefore key (s .key) ≡ true → Before key m
 before-head key m n s e h = subst (Before key) (sym e) h
 
 pub before-none : (key : List ℕ) (m : Meaning) → m ≡ [] → Before key m

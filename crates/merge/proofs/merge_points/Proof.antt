@@ -1,16 +1,14 @@
 -- `merge_points` meets its contract: the points to come and the fill come to what the key came to at first.
 use borrow.Author.Needs.{needs}
-use Prim.Native.Nat.{ℕ, _^_, _<_}
+use Prim.Native.Nat.{ℕ}
 use mathlib.Core.Path.{_≡_, refl, sym, ap, subst, _∙_}
 use mathlib.Core.Bool.{Bool}
 use mathlib.Core.List.{List}
 use native.Mathlib.Omega.{arith}
 use lib.IntN.{ℤ}
-use lib.Signed.{mag}
 use lib.ListN.{length}
 use mir.Syntax.{w64}
 use mir.Val.{toZ, ofZ}
-use mir.ValLaws.{toZ-ofZ}
 use Rattle.format.specs.Meaning.{Point}
 use Rattle.block_writer.specs.Filled.{filled}
 use Rattle.builder.specs.Steps.{fuller, pushPlaces, pushBytes, pushFill}
@@ -20,6 +18,7 @@ use Rattle.writer.proofs.Judges.{past-both, past-neither}
 use Rattle.merge.specs.declared.Front.{Front}
 use Rattle.merge.specs.declared.Picked.{Picked}
 use Rattle.merge.specs.Fronts.{PickedAs}
+use Rattle.merge.proofs.Picks.{stored}
 use Rattle.merge.proofs.Points.{Merging, frontsMerged, front-self, merging-starts, merging-past-all, merging-all, merging-past, merging-ends, merging-fits, merging-less, merging-goes-on}
 use Rattle.merge.proofs.merge_points.Statement.{statement}
 use Rattle.merge.proofs.merge_points.Tie as tie
@@ -84,7 +83,7 @@ module _ (c : tie.After-known-told Inv-loop μ-loop) where
   second = c .before .picked .given .0 .1 .1 .1 .0
 
   time-is : toZ w64 (ofZ w64 time) ≡ time
-  time-is = let fits : mag time < 2 ^ 63 = omega (arith, c .known-told .given) in toZ-ofZ w64 time (record { sfits = fits })
+  time-is = stored time (omega (arith, c .known-told .given))
 
   point : PickedAs (here .loop .first) (here .loop .second) (Picked.Point time pattern first second)
   point = subst (PickedAs (here .loop .first) (here .loop .second)) (c .before .picked .given .1) (c .before .before .before .pick .ensures)

@@ -1,20 +1,9 @@
 -- `pick` meets its contract: by which fronts have a point, and by their times.
-use Prim.Native.Nat.{_^_, _<_}
-use mathlib.Core.Path.{_≡_}
 use native.Mathlib.Omega.{arith}
-use lib.IntN.{ℤ}
-use lib.Signed.{mag}
-use mir.Syntax.{w64}
-use mir.Val.{toZ, ofZ}
-use mir.ValLaws.{toZ-ofZ}
 use borrow.Author.Tests.{not-true, not-false}
-use Rattle.merge.proofs.Picks.{pick-only-newer, pick-only-older, pick-older, pick-newer, pick-both}
+use Rattle.merge.proofs.Picks.{stored, pick-only-newer, pick-only-older, pick-older, pick-newer, pick-both}
 use Rattle.merge.proofs.pick.Statement.{statement}
 use Rattle.merge.proofs.pick.Tie as tie
-
--- a time, which the code holds by its bits
-stored : (t : ℤ) → mag t < 2 ^ 63 → toZ w64 (ofZ w64 t) ≡ t
-stored t fits = toZ-ofZ w64 t (record { sfits = fits })
 
 returns : tie.Need-returns
 returns c = (not-true _ (c .before .before .if1 .taken), not-true _ (c .if2 .taken))

@@ -1,19 +1,15 @@
 -- `settle` meets its contract: the points to come stay the same from block to block.
 use borrow.Author.Needs.{needs}
-use Prim.Native.Nat.{ℕ, _-_, _^_, _<_}
+use Prim.Native.Nat.{ℕ, _-_}
 use mathlib.Core.Path.{_≡_, refl, sym, subst, _∙_}
 use mathlib.Core.List.{List}
 use native.Mathlib.Omega.{arith}
 use lib.IntN.{ℤ}
 use lib.ListN.{length}
-use lib.Signed.{mag}
-use mir.Syntax.{w64}
-use mir.Val.{toZ, ofZ}
-use mir.ValLaws.{toZ-ofZ}
 use Rattle.format.specs.Limits.{imageMost}
 use Rattle.feed.specs.declared.NextPoint.{NextPoint}
 use Rattle.feed.specs.Feeds.{pointsLeft, seriesLeft, Stands, OnPoint}
-use Rattle.merge.proofs.Picks.{front-point, front-end}
+use Rattle.merge.proofs.Picks.{stored, front-point, front-end}
 use Rattle.merge.proofs.settle.Statement.{statement}
 use Rattle.merge.proofs.settle.Tie as tie
 
@@ -26,10 +22,6 @@ Inv-loop image times₀ values₀ on₀ times values on =
 
 abbrev μ-loop : tie.MeasureT-loop
 μ-loop image times₀ values₀ on₀ times values on = imageMost - on .cursor .at .0
-
--- a time, which the code holds by its bits
-stored : (t : ℤ) → mag t < 2 ^ 63 → toZ w64 (ofZ w64 t) ≡ t
-stored t fits = toZ-ofZ w64 t (record { sfits = fits })
 
 -- after a step of the feed
 module _ (c : tie.After-next-point Inv-loop μ-loop) where
