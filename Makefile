@@ -13,6 +13,7 @@ ARCHIVE = target/staticlib/libtsm.a
 PROGRAM = target/bin/roll_to_tsm
 
 run: $(ARCHIVE)
+	@sh .ci/tools cargo gcc
 	@rt check roll_to_tsm >target/run.log 2>&1 || { cat target/run.log; exit 1; }
 	@echo "a roll, examples/booleans.roll:"
 	@od -A d -t x1 examples/booleans.roll

@@ -1,8 +1,9 @@
 //! TSM files: check an image, find an entry, read a block or a point, write, unroll and merge images.
 //!
-//! An image is the whole of a TSM file, as bytes; a roll is the plain list of its series. The work is done by the proved static library `libtsm.a`; this crate
-//! gives it Rust's types. It uses only the standard library. The directory of `libtsm.a` is `TSM_LIB_DIR` when the crate
-//! is built, or `target/staticlib` of the repository.
+//! An image is the whole of a TSM file, as bytes; a roll is the plain list of its series. The work is done by the proved
+//! static library `libtsm.a`; this crate gives it Rust's types, and iterators over keys and blocks ([`Index`]) and points
+//! ([`Points`]). It uses only the standard library. The directory of `libtsm.a` is `TSM_LIB_DIR` when the crate is built,
+//! or `target/staticlib` of the repository.
 //!
 //! ```
 //! let image = std::fs::read("../../examples/booleans.tsm")?;
@@ -20,8 +21,15 @@
 mod error;
 #[allow(unsafe_code)]
 mod sys;
+mod walk;
 
 pub use error::Error;
+pub use walk::{Index, Key, Points, Series};
+
+/// The Rust examples of README.md, which are run with those of this crate.
+#[cfg(doctest)]
+#[doc = include_str!("../../../README.md")]
+pub struct Readme;
 
 /// The least number of bytes of an image.
 pub const IMAGE_LEAST: usize = 13;
