@@ -17,6 +17,9 @@
 #![deny(missing_docs)]
 #![deny(unsafe_code)]
 
+#[doc(hidden)] // for tests of the functions themselves
+#[allow(missing_docs)]
+pub mod c;
 mod error;
 #[allow(unsafe_code)]
 mod sys;
