@@ -152,7 +152,7 @@ pub fn all(inputs: &Inputs) -> Vec<Case<'_>> {
     cases.extend(peer.iter().chain(sheds).map(check));
     cases.extend([mixed, short_keys, long_keys].map(|input| find(input, 80)));
     cases.extend(blocks.iter().map(|input| read_block(input, 1)));
-    cases.extend([mixed, short_keys, long_keys].map(|input| read_block(input, 80)));
+    cases.extend([mixed, long_keys].map(|input| read_block(input, 80)));
     cases.extend([&blocks[0], mixed, short_keys].map(|input| read_point(input, 80)));
     cases.extend(blocks.iter().chain([write_mixed]).chain(sheds).map(write));
     cases.extend([mixed, ints].into_iter().chain(sheds).map(unroll));

@@ -26,7 +26,7 @@ use tsm_harness::acts::{Acts, Reference};
 use tsm_harness::library::Library;
 
 use cases::{Case, Lent};
-use report::Stack;
+use report::{Measured, Stack};
 
 /// How often each case is measured by either implementation.
 const ROUNDS: usize = 31;
@@ -61,8 +61,13 @@ fn measured(plot: Option<&str>) -> String {
         fs::write(file, plot::svg(&curves)).unwrap_or_else(|error| panic!("{file}: {error}"));
     }
     eprintln!("instructions");
-    let instructions = instructions::count(&cases);
-    report::tables(&cases, &times, instructions.as_deref(), &stacks, &curves)
+    report::tables(&Measured {
+        cases: &cases,
+        times,
+        instructions: instructions::count(&cases),
+        stacks,
+        curves,
+    })
 }
 
 /// The time of some cases.
@@ -76,7 +81,7 @@ fn only(word: &str) -> String {
         .iter()
         .map(|case| measure::times(case, &mut lent, ROUNDS))
         .collect();
-    report::acts(&cases, &times, None)
+    report::acts(&cases, &times)
 }
 
 /// Only the comparison.

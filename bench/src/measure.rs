@@ -2,7 +2,7 @@
 
 use std::hint::black_box;
 
-use tsm_harness::acts::Reference;
+use tsm_harness::acts::{Acts, Reference};
 use tsm_harness::library::Library;
 
 use crate::cases::{Case, Lent};
@@ -10,6 +10,8 @@ use crate::clock;
 
 /// Nanoseconds that one measurement takes at least, which drowns the cost of asking for the time.
 const LEAST_NANOSECONDS: f64 = 2e6;
+/// Nanoseconds after which a case has been measured often enough.
+const ENOUGH_NANOSECONDS: f64 = 1e9;
 
 /// The least and the median of many runs.
 #[derive(Clone, Copy)]
@@ -45,34 +47,37 @@ impl Times {
     }
 }
 
-/// Runs the case `rounds` times by either implementation. Each measurement has as many passes over
-/// the case as take at least `LEAST_NANOSECONDS`, both have the same.
+/// Runs the case by either implementation, at least `rounds` times. Each measurement has as many
+/// passes over the case as take at least [`LEAST_NANOSECONDS`], the same for both.
 pub fn times(case: &Case, lent: &mut Lent, rounds: usize) -> Times {
     case.run(&Library, lent);
     let once = clock::spent(|| case.run(&Reference, lent));
     let passes = (LEAST_NANOSECONDS / once).ceil().clamp(1.0, 1e6) as usize;
-    let units = (passes * case.units) as f64;
 
     let (mut library, mut reference) = (Vec::new(), Vec::new());
-    for round in 0..rounds {
-        for turn in [round, round + 1] {
-            if turn % 2 == 0 {
-                library.push(
-                    clock::spent(|| {
-                        (0..passes).for_each(|_| black_box(&*case).run(&Library, lent));
-                    }) / units,
-                );
-            } else {
-                reference.push(
-                    clock::spent(|| {
-                        (0..passes).for_each(|_| black_box(&*case).run(&Reference, lent));
-                    }) / units,
-                );
-            }
+    let mut all = 0.0;
+    while library.len() < rounds || (all < ENOUGH_NANOSECONDS && library.len() < 10 * rounds) {
+        let library_first = library.len() % 2 == 0;
+        for is_library in [library_first, !library_first] {
+            let spent = match is_library {
+                true => spent(case, &Library, lent, passes),
+                false => spent(case, &Reference, lent, passes),
+            };
+            all += spent;
+            let runs = match is_library {
+                true => &mut library,
+                false => &mut reference,
+            };
+            runs.push(spent / (passes * case.units) as f64);
         }
     }
     Times {
         library: Spread::of(library),
         reference: Spread::of(reference),
     }
+}
+
+/// Nanoseconds of so many passes over the case.
+fn spent(case: &Case, acts: &impl Acts, lent: &mut Lent, passes: usize) -> f64 {
+    clock::spent(|| (0..passes).for_each(|_| black_box(case).run(acts, lent)))
 }

@@ -26,105 +26,57 @@ pub fn stack_limit(act: &str) -> usize {
 }
 
 /// A figure of tsm1: what it is, the case of ours that is nearest, and nanoseconds for each unit.
-struct Peer {
-    what: &'static str,
-    act: &'static str,
-    input: &'static str,
-    cost: f64,
-}
-
-const fn peer(what: &'static str, act: &'static str, input: &'static str, cost: f64) -> Peer {
-    Peer {
-        what,
-        act,
-        input,
-        cost,
-    }
-}
+struct Peer(&'static str, &'static str, &'static str, f64);
 
 /// The least of tsm1's processor times over both of its runs.
-const PEERS: [Peer; 13] = [
-    peer(
-        "decode, jittered integers",
-        "read_block",
-        "block_ints_jitter",
-        14.4,
-    ),
-    peer(
-        "decode, regular integers",
-        "read_block",
-        "block_ints_regular",
-        8.4,
-    ),
-    peer(
-        "decode, regular booleans",
-        "read_block",
-        "block_bools_regular",
-        4.1,
-    ),
-    peer(
-        "decode, lossy booleans",
-        "read_block",
-        "block_bools_lossy",
-        9.3,
-    ),
-    peer(
-        "encode, jittered integers",
-        "write",
-        "block_ints_jitter",
-        37.6,
-    ),
-    peer(
-        "encode, regular integers",
-        "write",
-        "block_ints_regular",
-        11.2,
-    ),
-    peer(
-        "encode, regular booleans",
-        "write",
-        "block_bools_regular",
-        8.2,
-    ),
-    peer("encode, lossy booleans", "write", "block_bools_lossy", 15.5),
-    peer("read whole file, checksums", "check", "read_mixed", 6.2),
-    peer("read whole file of integers", "check", "read_ints", 15.1),
-    peer("read whole file of booleans", "check", "read_bools", 3.8),
-    peer("merge, overlapping pair", "merge", "over", 29.7),
-    peer("find among 80 keys", "find", "read_mixed", 202.0),
+#[rustfmt::skip]
+const PEERS: [Peer; 14] = [
+    Peer("decode, jittered integers", "read_block", "block_ints_jitter", 14.4),
+    Peer("decode, regular integers", "read_block", "block_ints_regular", 8.4),
+    Peer("decode, regular booleans", "read_block", "block_bools_regular", 4.1),
+    Peer("decode, lossy booleans", "read_block", "block_bools_lossy", 9.3),
+    Peer("encode, jittered integers", "write", "block_ints_jitter", 37.6),
+    Peer("encode, regular integers", "write", "block_ints_regular", 11.2),
+    Peer("encode, regular booleans", "write", "block_bools_regular", 8.2),
+    Peer("encode, lossy booleans", "write", "block_bools_lossy", 15.5),
+    Peer("read whole file, checksums", "check", "read_mixed", 6.2),
+    Peer("read whole file of integers", "check", "read_ints", 15.1),
+    Peer("read whole file of booleans", "check", "read_bools", 3.8),
+    Peer("merge, overlapping pair", "merge", "over", 29.7),
+    Peer("merge, newer after older", "merge", "tail", 1.1),
+    Peer("find among 80 keys", "find", "read_mixed", 202.0),
 ];
 
+/// What was measured, in the order of the cases.
+pub struct Measured<'a> {
+    pub cases: &'a [Case<'a>],
+    pub times: Vec<Times>,
+    /// None where there is no valgrind.
+    pub instructions: Option<Vec<Instructions>>,
+    pub stacks: BTreeMap<&'static str, Stack>,
+    pub curves: Vec<Curve>,
+}
+
 /// All tables of one run.
-pub fn tables(
-    cases: &[Case],
-    times: &[Times],
-    instructions: Option<&[Instructions]>,
-    stacks: &BTreeMap<&'static str, Stack>,
-    curves: &[Curve],
-) -> String {
+pub fn tables(measured: &Measured) -> String {
     let mut out = String::new();
-    write_tables(&mut out, cases, times, instructions, stacks, curves).expect("a string grows");
+    write_tables(&mut out, measured).expect("a string grows");
     out
 }
 
-fn write_tables(
-    out: &mut String,
-    cases: &[Case],
-    times: &[Times],
-    instructions: Option<&[Instructions]>,
-    stacks: &BTreeMap<&'static str, Stack>,
-    curves: &[Curve],
-) -> std::fmt::Result {
-    writeln!(
-        out,
-        "Commit {}; {}; {}.\n",
-        commit(),
-        processor(),
-        compiler()
-    )?;
+fn write_tables(out: &mut String, measured: &Measured) -> std::fmt::Result {
+    let Measured {
+        cases,
+        times,
+        instructions,
+        stacks,
+        curves,
+    } = measured;
+    let (commit, processor, compiler) = (commit(), processor(), compiler());
+    writeln!(out, "Commit {commit}; {processor}; {compiler}.\n")?;
 
     writeln!(out, "### Each act\n")?;
-    write_acts(out, cases, times, instructions)?;
+    write_acts(out, cases, times, instructions.as_deref())?;
 
     writeln!(out, "### Beside tsm1\n")?;
     writeln!(
@@ -152,10 +104,10 @@ fn write_tables(
     curves.iter().try_for_each(|curve| write_curve(out, curve))
 }
 
-/// The table of the acts alone.
-pub fn acts(cases: &[Case], times: &[Times], instructions: Option<&[Instructions]>) -> String {
+/// The table of the acts alone, without instructions.
+pub fn acts(cases: &[Case], times: &[Times]) -> String {
     let mut out = String::new();
-    write_acts(&mut out, cases, times, instructions).expect("a string grows");
+    write_acts(&mut out, cases, times, None).expect("a string grows");
     out
 }
 
@@ -231,12 +183,7 @@ fn write_case(
 }
 
 fn write_peer(out: &mut String, peer: &Peer, cases: &[Case], times: &[Times]) -> std::fmt::Result {
-    let &Peer {
-        what,
-        act,
-        input,
-        cost,
-    } = peer;
+    let &Peer(what, act, input, cost) = peer;
     let mut numbered = cases.iter().zip(times);
     let (case, times) = numbered
         .find(|(case, _)| case.act() == act && case.input == input)
