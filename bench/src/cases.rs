@@ -2,7 +2,7 @@
 
 use std::hint::black_box;
 
-use tsm_harness::acts::{Acts, EntryOut, Query, Reference};
+use tsm_harness::acts::{Acts, BlockOut, EntryOut, Query, Reference};
 use tsm_harness::call::{Answer, Call};
 use tsm_harness::lent::Padded;
 use tsm_harness::library::Library;
@@ -117,13 +117,15 @@ fn run(acts: &impl Acts, call: &Call, lent: &mut Lent) -> u8 {
     match *call {
         Call::Check { image } => acts.check(image, &mut keys, &mut points),
         Call::Find { query } => acts.find(query, entry),
-        Call::ReadBlock { query, .. } => acts.read_block(
-            query,
-            &mut lent.times,
-            &mut lent.values,
-            entry,
-            &mut written,
-        ),
+        Call::ReadBlock { query, .. } => {
+            let out = BlockOut {
+                times: &mut lent.times,
+                values: &mut lent.values,
+                entry,
+                count: &mut written,
+            };
+            acts.read_block(query, out)
+        }
         Call::ReadPoint { query } => acts.read_point(query, entry, &mut value),
         Call::Write { roll, capacity } => acts.write(roll, &mut lent.out[..capacity], &mut written),
         Call::Unroll { image, capacity } => {
