@@ -2,9 +2,11 @@
 # make test             the gate
 # make lib              the static library, target/staticlib/libtsm.a (proved again each time)
 # make test-interface   the C and Rust faces of the library, and the examples
+# make bench            speed, instructions and stack of the library beside ordinary Rust: target/bench.md and .svg
+# make bench-docs       the same, put into docs/BENCHMARKS.md
 # make install          library, header, pkg-config file and, where it is built, the program, below DESTDIR and PREFIX
 # make uninstall        removes what install put there
-.PHONY: run test lib test-interface install uninstall
+.PHONY: run test lib test-interface bench bench-docs install uninstall
 
 VERSION = 0.1.0
 PREFIX = /usr/local
@@ -40,6 +42,16 @@ $(ARCHIVE):
 test-interface: $(ARCHIVE)
 	tests/c/run
 	tests/bindings/run
+
+# The archive is built again, so that what is measured is what stands here.
+bench: lib
+	cargo build --offline --quiet --release --manifest-path bench/Cargo.toml
+	bench/target/release/tsm_bench --plot target/bench.svg >target/bench.md
+	@cat target/bench.md
+
+bench-docs: bench
+	sed -i -e '/^<!-- measured -->/,/^<!-- end -->/{//!d}' -e '/^<!-- measured -->/r target/bench.md' docs/BENCHMARKS.md
+	cp target/bench.svg docs/benchmarks.svg
 
 install: $(ARCHIVE)
 	install -d "$(DESTDIR)$(PREFIX)/lib/pkgconfig" "$(DESTDIR)$(PREFIX)/include"

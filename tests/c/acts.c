@@ -70,14 +70,21 @@ static uint32_t crc32(const uint8_t *bytes, size_t len)
 }
 
 /* A copy in memory of exactly its length; of no bytes, a null pointer. */
-static uint8_t *exactly(const uint8_t *bytes, size_t len)
+static uint8_t *lend(const Bytes *bytes)
 {
-    uint8_t *copy = len ? malloc(len) : NULL;
-    if (len && !copy)
+    if (bytes->len == 0)
+        return NULL;
+    uint8_t *copy = malloc(bytes->len);
+    if (copy == NULL)
         abort();
-    if (len)
-        memcpy(copy, bytes, len);
-    return copy;
+    return memcpy(copy, bytes->bytes, bytes->len);
+}
+
+/* Takes the copy back, which must be as it was lent. */
+static void take_back(uint8_t *copy, const Bytes *bytes)
+{
+    EXPECT(bytes->len == 0 || memcmp(copy, bytes->bytes, bytes->len) == 0);
+    free(copy);
 }
 
 /* ---- images */
@@ -175,82 +182,75 @@ static bool entry_alone(const Outs *o)
 
 static uint8_t check(Bytes image, Outs *o)
 {
-    uint8_t *lent = exactly(image.bytes, image.len);
+    uint8_t *lent = lend(&image);
     *o = untouched();
     uint8_t answer = tsm_check(lent, image.len, &o->keys, &o->points);
-    EXPECT(image.len == 0 || memcmp(lent, image.bytes, image.len) == 0);
-    free(lent);
+    take_back(lent, &image);
     return answer;
 }
 
 static uint8_t find(Bytes image, Bytes key, int64_t time, Outs *o)
 {
-    uint8_t *lent = exactly(image.bytes, image.len), *lent_key = exactly(key.bytes, key.len);
+    uint8_t *lent = lend(&image), *lent_key = lend(&key);
     *o = untouched();
     uint8_t answer = tsm_find(lent, image.len, lent_key, key.len, time, &o->kind, &o->min, &o->max, &o->offset, &o->size);
-    EXPECT(image.len == 0 || memcmp(lent, image.bytes, image.len) == 0);
-    EXPECT(key.len == 0 || memcmp(lent_key, key.bytes, key.len) == 0);
-    free(lent);
-    free(lent_key);
+    take_back(lent, &image);
+    take_back(lent_key, &key);
     return answer;
 }
 
 static uint8_t read_block(Bytes image, Bytes key, int64_t time, size_t times_len, size_t values_len, Outs *o)
 {
-    uint8_t *lent = exactly(image.bytes, image.len), *lent_key = exactly(key.bytes, key.len);
+    uint8_t *lent = lend(&image), *lent_key = lend(&key);
     *o = untouched();
     uint8_t answer = tsm_read_block(lent, image.len, lent_key, key.len, time, times_len ? o->times : NULL, times_len,
                                     values_len ? o->values : NULL, values_len, &o->kind, &o->min, &o->max, &o->offset,
                                     &o->size, &o->count);
-    EXPECT(image.len == 0 || memcmp(lent, image.bytes, image.len) == 0);
-    EXPECT(key.len == 0 || memcmp(lent_key, key.bytes, key.len) == 0);
-    free(lent);
-    free(lent_key);
+    take_back(lent, &image);
+    take_back(lent_key, &key);
     return answer;
 }
 
 static uint8_t read_point(Bytes image, Bytes key, int64_t time, Outs *o)
 {
-    uint8_t *lent = exactly(image.bytes, image.len), *lent_key = exactly(key.bytes, key.len);
+    uint8_t *lent = lend(&image), *lent_key = lend(&key);
     *o = untouched();
     uint8_t answer = tsm_read_point(lent, image.len, lent_key, key.len, time, &o->kind, &o->min, &o->max, &o->offset,
                                     &o->size, &o->value);
-    EXPECT(image.len == 0 || memcmp(lent, image.bytes, image.len) == 0);
-    EXPECT(key.len == 0 || memcmp(lent_key, key.bytes, key.len) == 0);
-    free(lent);
-    free(lent_key);
+    take_back(lent, &image);
+    take_back(lent_key, &key);
+    return answer;
+}
+
+/* tsm_write or tsm_unroll. */
+typedef uint8_t Lay(const uint8_t *, size_t, uint8_t *, size_t, size_t *);
+
+static uint8_t lay(Lay *act, Bytes input, size_t out_len, Outs *o)
+{
+    uint8_t *lent = lend(&input);
+    *o = untouched();
+    uint8_t answer = act(lent, input.len, out_len ? o->out : NULL, out_len, &o->written);
+    take_back(lent, &input);
     return answer;
 }
 
 static uint8_t write_roll(Bytes roll, size_t out_len, Outs *o)
 {
-    uint8_t *lent = exactly(roll.bytes, roll.len);
-    *o = untouched();
-    uint8_t answer = tsm_write(lent, roll.len, out_len ? o->out : NULL, out_len, &o->written);
-    EXPECT(roll.len == 0 || memcmp(lent, roll.bytes, roll.len) == 0);
-    free(lent);
-    return answer;
+    return lay(tsm_write, roll, out_len, o);
 }
 
 static uint8_t unroll(Bytes image, size_t out_len, Outs *o)
 {
-    uint8_t *lent = exactly(image.bytes, image.len);
-    *o = untouched();
-    uint8_t answer = tsm_unroll(lent, image.len, out_len ? o->out : NULL, out_len, &o->written);
-    EXPECT(image.len == 0 || memcmp(lent, image.bytes, image.len) == 0);
-    free(lent);
-    return answer;
+    return lay(tsm_unroll, image, out_len, o);
 }
 
 static uint8_t merge(Bytes older, Bytes newer, size_t out_len, Outs *o)
 {
-    uint8_t *lent_older = exactly(older.bytes, older.len), *lent_newer = exactly(newer.bytes, newer.len);
+    uint8_t *lent_older = lend(&older), *lent_newer = lend(&newer);
     *o = untouched();
     uint8_t answer = tsm_merge(lent_older, older.len, lent_newer, newer.len, out_len ? o->out : NULL, out_len, &o->written);
-    EXPECT(older.len == 0 || memcmp(lent_older, older.bytes, older.len) == 0);
-    EXPECT(newer.len == 0 || memcmp(lent_newer, newer.bytes, newer.len) == 0);
-    free(lent_older);
-    free(lent_newer);
+    take_back(lent_older, &older);
+    take_back(lent_newer, &newer);
     return answer;
 }
 

@@ -19,11 +19,13 @@
 #![deny(unsafe_code)]
 
 mod error;
-#[allow(unsafe_code)]
-mod sys;
+#[doc(hidden)] // public for tests of the C functions themselves
+#[allow(missing_docs, unsafe_code)]
+pub mod sys;
 mod walk;
 
 pub use error::Error;
+use sys::{BlockOut, EntryOut};
 pub use walk::{Index, Key, Points, Series};
 
 /// The Rust examples of README.md, which are run with those of this crate.
@@ -148,7 +150,8 @@ pub struct PointRead {
 /// # Ok::<(), Box<dyn std::error::Error>>(())
 /// ```
 pub fn check(image: &[u8]) -> Result<Totals, Error> {
-    let (keys, points) = sys::check(image)?;
+    let (mut keys, mut points) = (0, 0);
+    answer(sys::check(image, &mut keys, &mut points))?;
     Ok(Totals { keys, points })
 }
 
@@ -166,7 +169,7 @@ pub fn check(image: &[u8]) -> Result<Totals, Error> {
 /// # Ok::<(), Box<dyn std::error::Error>>(())
 /// ```
 pub fn find(image: &[u8], key: &[u8], time: i64) -> Result<Entry, Error> {
-    sys::find(image, key, time)
+    entry_of(|entry| sys::find(image, key, time, entry))
 }
 
 /// Reads the block that covers a time of a key.
@@ -183,7 +186,7 @@ pub fn find(image: &[u8], key: &[u8], time: i64) -> Result<Entry, Error> {
 /// ```
 pub fn read_block(image: &[u8], key: &[u8], time: i64) -> Result<Block, Error> {
     let (mut times, mut values) = (vec![0; BLOCK_MOST], vec![0; BLOCK_MOST]);
-    let (entry, count) = sys::read_block(image, key, time, &mut times, &mut values)?;
+    let (entry, count) = read_block_into(image, key, time, &mut times, &mut values)?;
     times.truncate(count);
     values.truncate(count);
     Ok(Block {
@@ -215,7 +218,17 @@ pub fn read_block_into(
     times: &mut [i64],
     values: &mut [i64],
 ) -> Result<(Entry, usize), Error> {
-    sys::read_block(image, key, time, times, values)
+    let mut count = 0;
+    let entry = entry_of(|entry| {
+        let out = BlockOut {
+            times,
+            values,
+            entry,
+            count: &mut count,
+        };
+        sys::read_block(image, key, time, out)
+    })?;
+    Ok((entry, count))
 }
 
 /// Reads the value of a key at exactly a time.
@@ -231,7 +244,8 @@ pub fn read_block_into(
 /// # Ok::<(), Box<dyn std::error::Error>>(())
 /// ```
 pub fn read_point(image: &[u8], key: &[u8], time: i64) -> Result<PointRead, Error> {
-    let (entry, value) = sys::read_point(image, key, time)?;
+    let mut value = 0;
+    let entry = entry_of(|entry| sys::read_point(image, key, time, entry, &mut value))?;
     Ok(PointRead { entry, value })
 }
 
@@ -257,7 +271,7 @@ pub fn write(roll: &[u8]) -> Result<Vec<u8>, Error> {
 ///
 /// Those of [`write`], then [`Error::ShortBuffer`]. A slice of [`IMAGE_MOST`] bytes is always long enough.
 pub fn write_into(roll: &[u8], out: &mut [u8]) -> Result<usize, Error> {
-    sys::write(roll, out)
+    length_of(|written| sys::write(roll, out, written))
 }
 
 /// Writes an image as a roll, after its full check.
@@ -282,7 +296,7 @@ pub fn unroll(image: &[u8]) -> Result<Vec<u8>, Error> {
 ///
 /// Those of [`check`], then [`Error::ShortBuffer`].
 pub fn unroll_into(image: &[u8], out: &mut [u8]) -> Result<usize, Error> {
-    sys::unroll(image, out)
+    length_of(|written| sys::unroll(image, out, written))
 }
 
 /// Merges an older and a newer image: the image of their points, and where both have a point of one key and time, the
@@ -310,7 +324,41 @@ pub fn merge(older: &[u8], newer: &[u8]) -> Result<Vec<u8>, Error> {
 ///
 /// Those of [`merge`], then [`Error::ShortBuffer`]. A slice of [`IMAGE_MOST`] bytes is always long enough.
 pub fn merge_into(older: &[u8], newer: &[u8], out: &mut [u8]) -> Result<usize, Error> {
-    sys::merge(older, newer, out)
+    length_of(|written| sys::merge(older, newer, out, written))
+}
+
+/// 0 is a success; any other number is that of an error.
+fn answer(number: u8) -> Result<(), Error> {
+    match number {
+        0 => Ok(()),
+        _ => Err(Error::from_number(number).expect("the library gives the number of an error")),
+    }
+}
+
+/// The entry that an act gives.
+fn entry_of(act: impl FnOnce(EntryOut) -> u8) -> Result<Entry, Error> {
+    let (mut kind, mut min, mut max, mut offset, mut size) = (0, 0, 0, 0, 0);
+    answer(act(EntryOut {
+        kind: &mut kind,
+        min: &mut min,
+        max: &mut max,
+        offset: &mut offset,
+        size: &mut size,
+    }))?;
+    Ok(Entry {
+        kind: Kind::from_byte(kind).expect("the library gives a kind that it carries"),
+        min,
+        max,
+        offset,
+        size,
+    })
+}
+
+/// The number of bytes that an act writes.
+fn length_of(act: impl FnOnce(&mut usize) -> u8) -> Result<usize, Error> {
+    let mut written = 0;
+    answer(act(&mut written))?;
+    Ok(written)
 }
 
 /// What an act writes, in a buffer that is doubled until it is long enough.

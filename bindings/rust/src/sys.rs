@@ -1,9 +1,8 @@
-//! The C functions of libtsm.a. All unsafe code of this crate is here.
+//! The C functions over slices and references. All unsafe code of this crate is here.
 //!
-//! What each call needs (include/tsm.h): pointers and lengths that come from slices, outputs that overlap nothing else,
-//! and out parameters that are not null. References give all three: a `&mut` is unique, and lives through the call.
-
-use crate::{Entry, Error, Kind};
+//! Each returns 0, or the number of an error, and writes its out parameters only with 0. What a call needs
+//! (include/tsm.h): pointers and lengths that come from slices, outputs that overlap nothing else, and out parameters
+//! that are not null. References give all three: a `&mut` is unique, and lives through the call.
 
 mod c {
     extern "C" {
@@ -88,151 +87,103 @@ mod c {
 }
 
 /// The out parameters of an entry.
-#[derive(Default)]
-struct EntryOut {
-    kind: u8,
-    min: i64,
-    max: i64,
-    offset: u64,
-    size: u32,
+pub struct EntryOut<'a> {
+    pub kind: &'a mut u8,
+    pub min: &'a mut i64,
+    pub max: &'a mut i64,
+    pub offset: &'a mut u64,
+    pub size: &'a mut u32,
 }
 
-impl EntryOut {
-    fn entry(self) -> Entry {
-        Entry {
-            kind: Kind::from_byte(self.kind).expect("the library gives a kind that it carries"),
-            min: self.min,
-            max: self.max,
-            offset: self.offset,
-            size: self.size,
-        }
-    }
+/// The outputs of a block.
+pub struct BlockOut<'a> {
+    pub times: &'a mut [i64],
+    pub values: &'a mut [i64],
+    pub entry: EntryOut<'a>,
+    pub count: &'a mut usize,
 }
 
-/// 0 is a success; any other number is that of an error.
-fn answer(number: u8) -> Result<(), Error> {
-    match number {
-        0 => Ok(()),
-        _ => Err(Error::from_number(number).expect("the library gives the number of an error")),
-    }
+pub fn check(image: &[u8], keys: &mut u64, points: &mut u64) -> u8 {
+    // SAFETY: the pointer and length are a slice's; the out parameters are references.
+    unsafe { c::tsm_check(image.as_ptr(), image.len(), keys, points) }
 }
 
-pub fn check(image: &[u8]) -> Result<(u64, u64), Error> {
-    let (mut keys, mut points) = (0, 0);
-    // SAFETY: the pointer and length are a slice's; the out parameters are two locals.
-    answer(unsafe { c::tsm_check(image.as_ptr(), image.len(), &mut keys, &mut points) })?;
-    Ok((keys, points))
-}
-
-pub fn find(image: &[u8], key: &[u8], time: i64) -> Result<Entry, Error> {
-    let mut out = EntryOut::default();
-    // SAFETY: each pointer and length are a slice's; the out parameters are fields of one local.
-    answer(unsafe {
+pub fn find(image: &[u8], key: &[u8], time: i64, entry: EntryOut) -> u8 {
+    // SAFETY: each pointer and length are a slice's; the out parameters are references.
+    unsafe {
         c::tsm_find(
             image.as_ptr(),
             image.len(),
             key.as_ptr(),
             key.len(),
             time,
-            &mut out.kind,
-            &mut out.min,
-            &mut out.max,
-            &mut out.offset,
-            &mut out.size,
+            entry.kind,
+            entry.min,
+            entry.max,
+            entry.offset,
+            entry.size,
         )
-    })?;
-    Ok(out.entry())
+    }
 }
 
-pub fn read_block(
-    image: &[u8],
-    key: &[u8],
-    time: i64,
-    times: &mut [i64],
-    values: &mut [i64],
-) -> Result<(Entry, usize), Error> {
-    let mut out = EntryOut::default();
-    let mut count = 0;
-    // SAFETY: each pointer and length are a slice's, the two that are written unique; the out parameters are a local and
-    // fields of another.
-    answer(unsafe {
+pub fn read_block(image: &[u8], key: &[u8], time: i64, out: BlockOut) -> u8 {
+    let entry = out.entry;
+    // SAFETY: each pointer and length are a slice's, the two that are written unique; the out parameters are references.
+    unsafe {
         c::tsm_read_block(
             image.as_ptr(),
             image.len(),
             key.as_ptr(),
             key.len(),
             time,
-            times.as_mut_ptr(),
-            times.len(),
-            values.as_mut_ptr(),
-            values.len(),
-            &mut out.kind,
-            &mut out.min,
-            &mut out.max,
-            &mut out.offset,
-            &mut out.size,
-            &mut count,
+            out.times.as_mut_ptr(),
+            out.times.len(),
+            out.values.as_mut_ptr(),
+            out.values.len(),
+            entry.kind,
+            entry.min,
+            entry.max,
+            entry.offset,
+            entry.size,
+            out.count,
         )
-    })?;
-    Ok((out.entry(), count))
+    }
 }
 
-pub fn read_point(image: &[u8], key: &[u8], time: i64) -> Result<(Entry, i64), Error> {
-    let mut out = EntryOut::default();
-    let mut value = 0;
-    // SAFETY: each pointer and length are a slice's; the out parameters are a local and fields of another.
-    answer(unsafe {
+pub fn read_point(image: &[u8], key: &[u8], time: i64, entry: EntryOut, value: &mut i64) -> u8 {
+    // SAFETY: each pointer and length are a slice's; the out parameters are references.
+    unsafe {
         c::tsm_read_point(
             image.as_ptr(),
             image.len(),
             key.as_ptr(),
             key.len(),
             time,
-            &mut out.kind,
-            &mut out.min,
-            &mut out.max,
-            &mut out.offset,
-            &mut out.size,
-            &mut value,
+            entry.kind,
+            entry.min,
+            entry.max,
+            entry.offset,
+            entry.size,
+            value,
         )
-    })?;
-    Ok((out.entry(), value))
+    }
 }
 
-pub fn write(roll: &[u8], out: &mut [u8]) -> Result<usize, Error> {
-    let mut written = 0;
-    // SAFETY: each pointer and length are a slice's, the one that is written unique; the out parameter is a local.
-    answer(unsafe {
-        c::tsm_write(
-            roll.as_ptr(),
-            roll.len(),
-            out.as_mut_ptr(),
-            out.len(),
-            &mut written,
-        )
-    })?;
-    Ok(written)
+pub fn write(roll: &[u8], out: &mut [u8], written: &mut usize) -> u8 {
+    let (out, out_len) = (out.as_mut_ptr(), out.len());
+    // SAFETY: each pointer and length are a slice's, the one that is written unique; the out parameter is a reference.
+    unsafe { c::tsm_write(roll.as_ptr(), roll.len(), out, out_len, written) }
 }
 
-pub fn unroll(image: &[u8], out: &mut [u8]) -> Result<usize, Error> {
-    let mut written = 0;
-    // SAFETY: each pointer and length are a slice's, the one that is written unique; the out parameter is a local.
-    answer(unsafe {
-        c::tsm_unroll(
-            image.as_ptr(),
-            image.len(),
-            out.as_mut_ptr(),
-            out.len(),
-            &mut written,
-        )
-    })?;
-    Ok(written)
+pub fn unroll(image: &[u8], out: &mut [u8], written: &mut usize) -> u8 {
+    let (out, out_len) = (out.as_mut_ptr(), out.len());
+    // SAFETY: as in `write`.
+    unsafe { c::tsm_unroll(image.as_ptr(), image.len(), out, out_len, written) }
 }
 
-pub fn merge(older: &[u8], newer: &[u8], out: &mut [u8]) -> Result<usize, Error> {
-    let mut written = 0;
-    // SAFETY: each pointer and length are a slice's, the one that is written unique; the out parameter is a local.
-    answer(unsafe {
+pub fn merge(older: &[u8], newer: &[u8], out: &mut [u8], written: &mut usize) -> u8 {
+    // SAFETY: as in `write`.
+    unsafe {
         c::tsm_merge(
             older.as_ptr(),
             older.len(),
@@ -240,8 +191,7 @@ pub fn merge(older: &[u8], newer: &[u8], out: &mut [u8]) -> Result<usize, Error>
             newer.len(),
             out.as_mut_ptr(),
             out.len(),
-            &mut written,
+            written,
         )
-    })?;
-    Ok(written)
+    }
 }

@@ -21,18 +21,19 @@ pub struct EntryOut<'a> {
     pub size: &'a mut u32,
 }
 
+/// The outputs of a block.
+pub struct BlockOut<'a> {
+    pub times: &'a mut [i64],
+    pub values: &'a mut [i64],
+    pub entry: EntryOut<'a>,
+    pub count: &'a mut usize,
+}
+
 /// The seven acts, with the answers of the C functions of the same names.
 pub trait Acts {
     fn check(&self, image: &[u8], keys: &mut u64, points: &mut u64) -> u8;
     fn find(&self, query: Query, entry: EntryOut) -> u8;
-    fn read_block(
-        &self,
-        query: Query,
-        times: &mut [i64],
-        values: &mut [i64],
-        entry: EntryOut,
-        count: &mut usize,
-    ) -> u8;
+    fn read_block(&self, query: Query, out: BlockOut) -> u8;
     fn read_point(&self, query: Query, entry: EntryOut, value: &mut i64) -> u8;
     fn write(&self, roll: &[u8], out: &mut [u8], written: &mut usize) -> u8;
     fn unroll(&self, image: &[u8], out: &mut [u8], written: &mut usize) -> u8;
@@ -55,18 +56,12 @@ impl Acts for Reference {
         number(found, |found| entry.set(found))
     }
 
-    fn read_block(
-        &self,
-        query: Query,
-        times: &mut [i64],
-        values: &mut [i64],
-        entry: EntryOut,
-        count: &mut usize,
-    ) -> u8 {
-        let read = reference::read_block(query.image, query.key, query.time, times, values);
+    fn read_block(&self, query: Query, out: BlockOut) -> u8 {
+        let Query { image, key, time } = query;
+        let read = reference::read_block(image, key, time, out.times, out.values);
         number(read, |read| {
-            entry.set(read.entry);
-            *count = read.count;
+            out.entry.set(read.entry);
+            *out.count = read.count;
         })
     }
 

@@ -1,189 +1,68 @@
 //! The static library `libtsm.a` behind the same interface, and memory with guard pages to lend to
 //! it. All unsafe code of the tests is here.
 
-use crate::acts::{Acts, EntryOut, Query};
+use tsm::sys;
+
+use crate::acts::{Acts, BlockOut, EntryOut, Query};
 use crate::lent::{Cell, Lent, Memory};
 
-/// The C interface of the library.
-mod c {
-    extern "C" {
-        pub fn tsm_check(
-            image: *const u8,
-            image_len: usize,
-            keys: *mut u64,
-            points: *mut u64,
-        ) -> u8;
-
-        pub fn tsm_find(
-            image: *const u8,
-            image_len: usize,
-            key: *const u8,
-            key_len: usize,
-            time: i64,
-            kind: *mut u8,
-            min: *mut i64,
-            max: *mut i64,
-            offset: *mut u64,
-            size: *mut u32,
-        ) -> u8;
-
-        pub fn tsm_read_block(
-            image: *const u8,
-            image_len: usize,
-            key: *const u8,
-            key_len: usize,
-            time: i64,
-            times: *mut i64,
-            times_len: usize,
-            values: *mut i64,
-            values_len: usize,
-            kind: *mut u8,
-            min: *mut i64,
-            max: *mut i64,
-            offset: *mut u64,
-            size: *mut u32,
-            count: *mut usize,
-        ) -> u8;
-
-        pub fn tsm_read_point(
-            image: *const u8,
-            image_len: usize,
-            key: *const u8,
-            key_len: usize,
-            time: i64,
-            kind: *mut u8,
-            min: *mut i64,
-            max: *mut i64,
-            offset: *mut u64,
-            size: *mut u32,
-            value: *mut i64,
-        ) -> u8;
-
-        pub fn tsm_write(
-            roll: *const u8,
-            roll_len: usize,
-            out: *mut u8,
-            out_len: usize,
-            written: *mut usize,
-        ) -> u8;
-
-        pub fn tsm_unroll(
-            image: *const u8,
-            image_len: usize,
-            out: *mut u8,
-            out_len: usize,
-            written: *mut usize,
-        ) -> u8;
-
-        pub fn tsm_merge(
-            older: *const u8,
-            older_len: usize,
-            newer: *const u8,
-            newer_len: usize,
-            out: *mut u8,
-            out_len: usize,
-            written: *mut usize,
-        ) -> u8;
-    }
-}
-
-/// The library. Each call lends pointers and lengths of slices that live as long as the call, and
-/// pointers to single cells.
+/// The library.
 pub struct Library;
 
 impl Acts for Library {
     fn check(&self, image: &[u8], keys: &mut u64, points: &mut u64) -> u8 {
-        unsafe { c::tsm_check(image.as_ptr(), image.len(), keys, points) }
+        sys::check(image, keys, points)
     }
 
     fn find(&self, query: Query, entry: EntryOut) -> u8 {
         let Query { image, key, time } = query;
-        unsafe {
-            c::tsm_find(
-                image.as_ptr(),
-                image.len(),
-                key.as_ptr(),
-                key.len(),
-                time,
-                entry.kind,
-                entry.min,
-                entry.max,
-                entry.offset,
-                entry.size,
-            )
-        }
+        sys::find(image, key, time, entry.into())
     }
 
-    fn read_block(
-        &self,
-        query: Query,
-        times: &mut [i64],
-        values: &mut [i64],
-        entry: EntryOut,
-        count: &mut usize,
-    ) -> u8 {
+    fn read_block(&self, query: Query, out: BlockOut) -> u8 {
         let Query { image, key, time } = query;
-        unsafe {
-            c::tsm_read_block(
-                image.as_ptr(),
-                image.len(),
-                key.as_ptr(),
-                key.len(),
-                time,
-                times.as_mut_ptr(),
-                times.len(),
-                values.as_mut_ptr(),
-                values.len(),
-                entry.kind,
-                entry.min,
-                entry.max,
-                entry.offset,
-                entry.size,
-                count,
-            )
-        }
+        let out = sys::BlockOut {
+            times: out.times,
+            values: out.values,
+            entry: out.entry.into(),
+            count: out.count,
+        };
+        sys::read_block(image, key, time, out)
     }
 
     fn read_point(&self, query: Query, entry: EntryOut, value: &mut i64) -> u8 {
         let Query { image, key, time } = query;
-        unsafe {
-            c::tsm_read_point(
-                image.as_ptr(),
-                image.len(),
-                key.as_ptr(),
-                key.len(),
-                time,
-                entry.kind,
-                entry.min,
-                entry.max,
-                entry.offset,
-                entry.size,
-                value,
-            )
-        }
+        sys::read_point(image, key, time, entry.into(), value)
     }
 
     fn write(&self, roll: &[u8], out: &mut [u8], written: &mut usize) -> u8 {
-        let (out, out_len) = (out.as_mut_ptr(), out.len());
-        unsafe { c::tsm_write(roll.as_ptr(), roll.len(), out, out_len, written) }
+        sys::write(roll, out, written)
     }
 
     fn unroll(&self, image: &[u8], out: &mut [u8], written: &mut usize) -> u8 {
-        let (out, out_len) = (out.as_mut_ptr(), out.len());
-        unsafe { c::tsm_unroll(image.as_ptr(), image.len(), out, out_len, written) }
+        sys::unroll(image, out, written)
     }
 
     fn merge(&self, older: &[u8], newer: &[u8], out: &mut [u8], written: &mut usize) -> u8 {
-        unsafe {
-            c::tsm_merge(
-                older.as_ptr(),
-                older.len(),
-                newer.as_ptr(),
-                newer.len(),
-                out.as_mut_ptr(),
-                out.len(),
-                written,
-            )
+        sys::merge(older, newer, out, written)
+    }
+}
+
+impl<'a> From<EntryOut<'a>> for sys::EntryOut<'a> {
+    fn from(entry: EntryOut<'a>) -> sys::EntryOut<'a> {
+        let EntryOut {
+            kind,
+            min,
+            max,
+            offset,
+            size,
+        } = entry;
+        sys::EntryOut {
+            kind,
+            min,
+            max,
+            offset,
+            size,
         }
     }
 }

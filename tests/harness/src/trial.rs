@@ -1,7 +1,7 @@
 //! Runs a call over lent memory and judges every lent cell afterwards: inputs are as they were, no
 //! cell beside a slice is touched, a refusal leaves all, and a good answer all past the result.
 
-use crate::acts::{Acts, EntryOut, Query};
+use crate::acts::{Acts, BlockOut, EntryOut, Query};
 use crate::call::{Answer, Call, Entry};
 use crate::data::number_from_env;
 use crate::lent::{fill, holds_pattern, Cell, Lent, Memory, Out};
@@ -109,7 +109,13 @@ impl<'a> Trial<'a> {
         let lent_times = lend_pattern(&mut *self.times, times);
         let lent_values = lend_pattern(&mut *self.values, values);
         let (number, entry) = self.inputs.ask(query, |query, out| {
-            acts.read_block(query, lent_times, lent_values, out, count.cell())
+            let out = BlockOut {
+                times: lent_times,
+                values: lent_values,
+                entry: out,
+                count: count.cell(),
+            };
+            acts.read_block(query, out)
         })?;
         let count = judge(number, count)?;
         let times = judge_slice(number, lent_times, count)?;
@@ -295,14 +301,7 @@ mod tests {
         fn find(&self, _: Query, _: EntryOut) -> u8 {
             unimplemented!()
         }
-        fn read_block(
-            &self,
-            _: Query,
-            _: &mut [i64],
-            _: &mut [i64],
-            _: EntryOut,
-            _: &mut usize,
-        ) -> u8 {
+        fn read_block(&self, _: Query, _: BlockOut) -> u8 {
             unimplemented!()
         }
         fn read_point(&self, _: Query, _: EntryOut, _: &mut i64) -> u8 {

@@ -46,17 +46,34 @@ impl Points {
         self.count = 0;
     }
 
+    pub fn is_full(&self) -> bool {
+        self.count == MAX_POINTS
+    }
+
+    /// Adds a point; the block is not full.
+    #[inline]
+    pub fn push(&mut self, time: i64, value: i64) {
+        self.times[self.count] = time;
+        self.values[self.count] = value;
+        self.count += 1;
+    }
+
+    /// Adds as many of the points as there is room for, and answers how many.
+    pub fn extend(&mut self, times: &[i64], values: &[i64]) -> usize {
+        let count = times.len().min(MAX_POINTS - self.count);
+        let cells = self.count..self.count + count;
+        self.times[cells.clone()].copy_from_slice(&times[..count]);
+        self.values[cells].copy_from_slice(&values[..count]);
+        self.count += count;
+        count
+    }
+
     /// Reads the block of `entry`: refusals 12 to 16.
     pub fn read(&mut self, image: &[u8], entry: &Entry) -> Result<(), Refusal> {
         let block = &image[entry.start()..entry.end()];
         if bytes::u32_at(block, 0) != Some(crc32::checksum(&block[CHECKSUM..])) {
             return Err(Refusal::Checksum(entry.start()));
         }
-        self.open(image, entry)
-    }
-
-    /// Reads the block without its checksum: refusals 13 to 16.
-    pub fn open(&mut self, image: &[u8], entry: &Entry) -> Result<(), Refusal> {
         let Sections { times, values } = sections(image, entry)?;
         self.count = timestamps::read(&image[times..values], &mut self.times)
             .map_err(|place| Refusal::Timestamps(times + place))?;
@@ -99,20 +116,28 @@ fn sections(image: &[u8], entry: &Entry) -> Result<Sections, Refusal> {
     Ok(Sections { times, values })
 }
 
-/// Appends our writer's block. `section` is working space.
-pub fn append(kind: Kind, times: &[i64], values: &[i64], section: &mut Vec<u8>, out: &mut Vec<u8>) {
+/// Working space for a block that is written.
+#[derive(Default)]
+pub struct Space {
+    numbers: Vec<u64>,
+    section: Vec<u8>,
+}
+
+/// Appends our writer's block.
+pub fn append(kind: Kind, points: &Points, space: &mut Space, out: &mut Vec<u8>) {
+    let Space { numbers, section } = space;
     let block = out.len();
     out.extend_from_slice(&[0; CHECKSUM]);
     out.push(kind.byte());
 
     section.clear();
-    timestamps::append(times, section);
+    timestamps::append(points.times(), numbers, section);
     varint::append(section.len() as u64, out);
     out.extend_from_slice(section);
 
     match kind {
-        Kind::Integer => integers::append(values, out),
-        Kind::Boolean => booleans::append(values, out),
+        Kind::Integer => integers::append(points.values(), numbers, out),
+        Kind::Boolean => booleans::append(points.values(), out),
     }
     let body = block + CHECKSUM;
     let checksum = crc32::checksum(&out[body..]);
@@ -126,13 +151,9 @@ mod tests {
     #[test]
     fn worked_block_of_three_holes() {
         let mut out = Vec::new();
-        append(
-            Kind::Boolean,
-            &[0, 10, 20],
-            &[1, 0, 0],
-            &mut Vec::new(),
-            &mut out,
-        );
+        let mut points = Points::default();
+        points.extend(&[0, 10, 20], &[1, 0, 0]);
+        append(Kind::Boolean, &points, &mut Space::default(), &mut out);
         let body = [2, 0x0b, 0x21, 0, 0, 0, 0, 0, 0, 0, 0, 1, 3, 0x10, 3, 0x80];
         assert_eq!(out[CHECKSUM..], body);
         assert_eq!(out.len(), 20);

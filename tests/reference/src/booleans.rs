@@ -17,26 +17,43 @@ pub fn read(section: &[u8], values: &mut [i64]) -> Result<(), Place> {
     if count != values.len() as u64 || bits.len() != values.len().div_ceil(8) {
         return Err(SECTION);
     }
-    for (eight, &byte) in values.chunks_mut(8).zip(bits) {
-        let padding = 0xff_u8.checked_shr(eight.len() as u32).unwrap_or(0);
-        if byte & padding != 0 {
+    let mut eights = values.chunks_exact_mut(8);
+    for (eight, &byte) in (&mut eights).zip(bits) {
+        open(byte, eight);
+    }
+    let rest = eights.into_remainder();
+    if let (false, Some(&byte)) = (rest.is_empty(), bits.last()) {
+        if byte << rest.len() != 0 {
             return Err(SECTION);
         }
-        for (position, value) in eight.iter_mut().enumerate() {
-            *value = i64::from(byte >> (7 - position) & 1);
-        }
+        open(byte, rest);
     }
     Ok(())
+}
+
+/// The highest bits of the byte as 0 or 1.
+#[inline]
+fn open(byte: u8, values: &mut [i64]) {
+    for (position, value) in values.iter_mut().enumerate() {
+        *value = i64::from(byte >> (7 - position) & 1);
+    }
 }
 
 /// Appends our writer's section of `values`, each 0 or 1.
 pub fn append(values: &[i64], out: &mut Vec<u8>) {
     out.push(HEAD);
     varint::append(values.len() as u64, out);
-    out.extend(values.chunks(8).map(|eight| {
-        let bits = eight.iter().fold(0, |bits, &value| bits << 1 | value as u8);
-        bits << (8 - eight.len())
-    }));
+    let bits = |values: &[i64]| {
+        values
+            .iter()
+            .fold(0, |bits, &value| bits << 1 | value as u8)
+    };
+    let eights = values.chunks_exact(8);
+    let rest = eights.remainder();
+    out.extend(eights.map(bits));
+    if !rest.is_empty() {
+        out.push(bits(rest) << (8 - rest.len()));
+    }
 }
 
 #[cfg(test)]

@@ -3,7 +3,7 @@
 const POLYNOMIAL: u32 = 0xedb8_8320;
 
 /// `TABLES[k][b]`: the remainder of byte `b` followed by `k` zero bytes.
-const TABLES: [[u32; 256]; 8] = tables();
+static TABLES: [[u32; 256]; 8] = tables();
 
 const fn tables() -> [[u32; 256]; 8] {
     let mut tables = [[0; 256]; 8];

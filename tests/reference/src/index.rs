@@ -207,7 +207,7 @@ pub fn read(image: &[u8]) -> Result<Vec<Series<'_>>, Refusal> {
 pub fn find<'a>(image: &'a [u8], key: &[u8]) -> Result<Series<'a>, Refusal> {
     let mut found = None;
     walk(image, |series| {
-        if series.key == key {
+        if found.is_none() && series.key == key {
             found = Some(series);
         }
     })?;

@@ -1,6 +1,5 @@
 //! The integers section: the first value, then wrapped differences, each doubled.
 
-use crate::block::MAX_POINTS;
 use crate::bytes;
 use crate::refusal::Place;
 use crate::simple8b;
@@ -85,15 +84,12 @@ fn read_repeated(section: &[u8], values: &mut [i64]) -> Result<(), Place> {
     Ok(())
 }
 
-/// Appends our writer's section of `values`: 1 to [`MAX_POINTS`] of them.
-pub fn append(values: &[i64], out: &mut Vec<u8>) {
-    let mut buffer = [0; MAX_POINTS];
-    let stored = &mut buffer[..values.len()];
-    let mut before = 0;
-    for (slot, &value) in stored.iter_mut().zip(values) {
-        *slot = zigzag(value.wrapping_sub(before));
-        before = value;
-    }
+/// Appends our writer's section of `values`, at least one. `stored` is working space.
+pub fn append(values: &[i64], stored: &mut Vec<u64>, out: &mut Vec<u8>) {
+    stored.clear();
+    stored.push(zigzag(values[0]));
+    let differences = values.windows(2).map(|pair| pair[1].wrapping_sub(pair[0]));
+    stored.extend(differences.map(zigzag));
     let (first, rest) = (stored[0], &stored[1..]);
     if rest.len() >= 2 && rest.iter().all(|&number| number == rest[0]) {
         out.push(REPEATED);
@@ -118,7 +114,7 @@ mod tests {
 
     fn section(values: &[i64]) -> Vec<u8> {
         let mut out = Vec::new();
-        append(values, &mut out);
+        append(values, &mut Vec::new(), &mut out);
         let mut back = vec![0; values.len()];
         assert_eq!(read(&out, &mut back), Ok(()));
         assert_eq!(back, values);

@@ -11,7 +11,7 @@
 //! | [`timestamps`], [`integers`], [`booleans`] | the sections of a block |
 //! | [`crc32`] | the checksum of a block |
 //! | [`block`] | The block |
-//! | [`mod@file`], [`index`], [`accepted`] | The file |
+//! | [`mod@file`], [`index`] | The file |
 //! | [`roll`] | The roll |
 //! | [`writer`] | our writer's image |
 //! | [`mod@merge`] | the merged points of two images |
@@ -20,7 +20,6 @@
 
 #![forbid(unsafe_code)]
 
-pub mod accepted;
 pub mod acts;
 pub mod block;
 pub mod booleans;

@@ -2,24 +2,25 @@
 
 use std::cmp::Ordering;
 
-use crate::accepted::Accepted;
 use crate::block::Points;
-use crate::index::{Entries, Series};
+use crate::index::{self, Entries, Series};
 use crate::refusal::Refusal;
 use crate::writer::Writer;
 
-/// Our writer's image of the merged points: refusals 21 and 22.
-pub fn merge(older: &Accepted, newer: &Accepted) -> Result<Vec<u8>, Refusal> {
+/// Our writer's image of the merged points, or one of the refusals that a full check of either
+/// image gives, or 21 or 22.
+pub fn merge(older: &[u8], newer: &[u8]) -> Result<Vec<u8>, Refusal> {
+    let (older_keys, newer_keys) = (index::read(older)?, index::read(newer)?);
     let pairs = || Pairs {
-        older: &older.keys,
-        newer: &newer.keys,
+        older: &older_keys,
+        newer: &newer_keys,
     };
     if pairs().any(|pair| pair.has_two_kinds()) {
         return Err(Refusal::TwoKinds);
     }
     let mut writer = Writer::default();
-    let mut old = Feed::new(older.image);
-    let mut new = Feed::new(newer.image);
+    let mut old = Feed::new(older);
+    let mut new = Feed::new(newer);
     for pair in pairs() {
         let Some(series) = pair.older.or(pair.newer) else {
             break;
@@ -27,9 +28,7 @@ pub fn merge(older: &Accepted, newer: &Accepted) -> Result<Vec<u8>, Refusal> {
         writer.begin(series.key, series.kind);
         old.start(pair.older)?;
         new.start(pair.newer)?;
-        while let Some((time, value)) = next_merged(&mut old, &mut new)? {
-            writer.point(time, value);
-        }
+        merge_points(&mut old, &mut new, &mut writer)?;
         writer.end();
     }
     writer.finish()
@@ -79,7 +78,7 @@ fn take_first_if<'a>(wanted: bool, keys: &mut &'a [Series<'a>]) -> Option<&'a Se
     Some(first)
 }
 
-/// The points of one series of a checked image, one after the other.
+/// The points of one series, block by block.
 struct Feed<'a> {
     image: &'a [u8],
     entries: Option<Entries<'a>>,
@@ -104,19 +103,15 @@ impl<'a> Feed<'a> {
         self.next_block()
     }
 
-    /// The point where the feed stands.
-    #[inline]
-    fn point(&self) -> Option<(i64, i64)> {
-        Some((
-            *self.block.times().get(self.at)?,
-            self.block.values()[self.at],
-        ))
+    /// The times and values that are left of the block; none at the end of the series.
+    fn rest(&self) -> (&[i64], &[i64]) {
+        let (times, values) = (self.block.times(), self.block.values());
+        (&times[self.at..], &values[self.at..])
     }
 
-    /// Goes to the next point.
-    #[inline]
-    fn advance(&mut self) -> Result<(), Refusal> {
-        self.at += 1;
+    /// Goes over so many points of the block, and to the next block where it ends.
+    fn skip(&mut self, count: usize) -> Result<(), Refusal> {
+        self.at += count;
         if self.at == self.block.times().len() {
             self.next_block()?;
         }
@@ -126,7 +121,7 @@ impl<'a> Feed<'a> {
     fn next_block(&mut self) -> Result<(), Refusal> {
         self.at = 0;
         match self.entries.as_mut().and_then(Entries::next) {
-            Some(entry) => self.block.open(self.image, &entry),
+            Some(entry) => self.block.read(self.image, &entry),
             None => {
                 self.block.clear();
                 Ok(())
@@ -135,21 +130,43 @@ impl<'a> Feed<'a> {
     }
 }
 
-/// The earliest point where the feeds stand, the newer's at equal times.
-#[inline]
-fn next_merged(old: &mut Feed, new: &mut Feed) -> Result<Option<(i64, i64)>, Refusal> {
-    let (older, newer) = (old.point(), new.point());
-    let order = match (older, newer) {
-        (None, None) => return Ok(None),
-        (Some(_), None) => Ordering::Less,
-        (None, Some(_)) => Ordering::Greater,
-        (Some((older, _)), Some((newer, _))) => older.cmp(&newer),
-    };
-    if order.is_le() {
-        old.advance()?;
+/// Writes the points of both feeds by time, the newer's at equal times.
+fn merge_points(old: &mut Feed, new: &mut Feed, writer: &mut Writer) -> Result<(), Refusal> {
+    loop {
+        let ((old_times, old_values), (new_times, new_values)) = (old.rest(), new.rest());
+        let (old_count, new_count) = match (old_times.first(), new_times.first()) {
+            (None, None) => return Ok(()),
+            (Some(_), None) => {
+                writer.points(old_times, old_values);
+                (old_times.len(), 0)
+            }
+            (None, Some(_)) => {
+                writer.points(new_times, new_values);
+                (0, new_times.len())
+            }
+            (Some(_), Some(_)) => merge_blocks(old.rest(), new.rest(), writer),
+        };
+        old.skip(old_count)?;
+        new.skip(new_count)?;
     }
-    if order.is_ge() {
-        new.advance()?;
+}
+
+/// Writes points of both blocks until one block ends, and answers how many of either are done.
+fn merge_blocks(
+    (old_times, old_values): (&[i64], &[i64]),
+    (new_times, new_values): (&[i64], &[i64]),
+    writer: &mut Writer,
+) -> (usize, usize) {
+    let (mut old, mut new) = (0, 0);
+    while old < old_times.len() && new < new_times.len() {
+        let (older, newer) = (old_times[old], new_times[new]);
+        let value = match newer <= older {
+            true => new_values[new],
+            false => old_values[old],
+        };
+        writer.point(older.min(newer), value);
+        old += usize::from(older <= newer);
+        new += usize::from(newer <= older);
     }
-    Ok(if order.is_ge() { newer } else { older })
+    (old, new)
 }

@@ -49,33 +49,59 @@ impl Plan {
             Some(numbers) => numbers.iter().all(|&number| number >> self.bits == 0),
         }
     }
+}
 
-    /// The payload that holds `numbers`, the first in the lowest bits.
-    fn payload(self, numbers: &[u64]) -> u64 {
-        if self.bits == 0 {
-            return 0;
+/// Calls the function of the plan: each plan has its own, compiled for its count and bits.
+macro_rules! by_plan {
+    ($selector:expr, $function:ident, $($argument:expr),+) => {
+        match $selector {
+            0 => $function::<0>($($argument),+),
+            1 => $function::<1>($($argument),+),
+            2 => $function::<2>($($argument),+),
+            3 => $function::<3>($($argument),+),
+            4 => $function::<4>($($argument),+),
+            5 => $function::<5>($($argument),+),
+            6 => $function::<6>($($argument),+),
+            7 => $function::<7>($($argument),+),
+            8 => $function::<8>($($argument),+),
+            9 => $function::<9>($($argument),+),
+            10 => $function::<10>($($argument),+),
+            11 => $function::<11>($($argument),+),
+            12 => $function::<12>($($argument),+),
+            13 => $function::<13>($($argument),+),
+            14 => $function::<14>($($argument),+),
+            _ => $function::<15>($($argument),+),
         }
-        numbers
-            .iter()
-            .rev()
-            .fold(0, |payload, number| payload << self.bits | number)
-    }
+    };
+}
 
-    /// Fills `numbers`, one cell for each number of the plan. `None` if an unused bit is set.
-    #[inline]
-    fn open(self, payload: u64, numbers: &mut [i64]) -> Option<()> {
-        let mut rest = payload;
-        if self.bits == 0 {
-            numbers.fill(1);
-        } else {
-            let mask = (1 << self.bits) - 1;
-            for number in numbers {
-                *number = (rest & mask) as i64;
-                rest >>= self.bits;
-            }
+/// Opens a payload into the first cells and answers how many. `None` if an unused bit is set, or
+/// there are fewer cells.
+#[inline]
+fn open<const SELECTOR: usize>(payload: u64, cells: &mut [i64]) -> Option<usize> {
+    let Plan { count, bits } = const { PLANS[SELECTOR] };
+    let cells = cells.get_mut(..count)?;
+    if bits == 0 {
+        cells.fill(1);
+    } else {
+        for (rank, cell) in cells.iter_mut().enumerate() {
+            *cell = (payload >> (rank as u32 * bits) & ((1 << bits) - 1)) as i64;
         }
-        (rest == 0).then_some(())
     }
+    (payload >> (count as u32 * bits) == 0).then_some(count)
+}
+
+/// The payload that holds the first numbers, the first in the lowest bits.
+#[inline]
+fn payload<const SELECTOR: usize>(numbers: &[u64]) -> u64 {
+    let Plan { count, bits } = const { PLANS[SELECTOR] };
+    if bits == 0 {
+        return 0;
+    }
+    let numbers = numbers[..count].iter().enumerate();
+    numbers.fold(0, |payload, (rank, number)| {
+        payload | number << (rank as u32 * bits)
+    })
 }
 
 /// Opens the words and answers how many numbers they hold. `None` if a word breaks its rules, is
@@ -88,17 +114,15 @@ pub fn unpack(words: &[u8], numbers: &mut [i64]) -> Option<usize> {
     let mut filled = 0;
     for word in words {
         let word = bytes::u64_at(word, 0)?;
-        let plan = PLANS[(word >> PAYLOAD_BITS) as usize];
-        let cells = numbers.get_mut(filled..filled + plan.count)?;
-        plan.open(word & GREATEST, cells)?;
-        filled += plan.count;
+        let cells = &mut numbers[filled..];
+        filled += by_plan!(word >> PAYLOAD_BITS, open, word & GREATEST, cells)?;
     }
     Some(filled)
 }
 
-/// The word of the plan that holds `numbers`, which it takes.
+/// The word of the plan that holds the first of `numbers`, which it takes.
 pub fn word(selector: usize, numbers: &[u64]) -> u64 {
-    (selector as u64) << PAYLOAD_BITS | PLANS[selector].payload(numbers)
+    (selector as u64) << PAYLOAD_BITS | by_plan!(selector, payload, numbers)
 }
 
 /// Appends the words of `numbers`, none above [`GREATEST`]: for each word the lowest plan whose
@@ -106,13 +130,34 @@ pub fn word(selector: usize, numbers: &[u64]) -> u64 {
 pub fn pack(numbers: &[u64], out: &mut Vec<u8>) {
     let mut rest = numbers;
     while !rest.is_empty() {
-        let selector = (0..PLANS.len())
-            .find(|&selector| PLANS[selector].takes(rest))
-            .expect("the last plan takes any number");
-        let (taken, left) = rest.split_at(PLANS[selector].count);
-        out.extend_from_slice(&word(selector, taken).to_be_bytes());
-        rest = left;
+        let selector = lowest_plan(rest);
+        out.extend_from_slice(&word(selector, rest).to_be_bytes());
+        rest = &rest[PLANS[selector].count..];
     }
+}
+
+/// The lowest plan that takes the first of `rest`. With a plan every higher one takes them, which
+/// has fewer numbers of more bits, so the plans are tried from the highest down.
+fn lowest_plan(rest: &[u64]) -> usize {
+    let mut selector = PLANS.len() - 1;
+    let mut seen = 0;
+    let (mut any_bit, mut not_one) = (0, 0);
+    while selector > 0 {
+        let Plan { count, bits } = PLANS[selector - 1];
+        let Some(more) = rest.get(seen..count) else {
+            break;
+        };
+        for number in more {
+            any_bit |= number;
+            not_one |= number ^ 1;
+        }
+        if (if bits == 0 { not_one } else { any_bit >> bits }) != 0 {
+            break;
+        }
+        seen = count;
+        selector -= 1;
+    }
+    selector
 }
 
 #[cfg(test)]

@@ -90,9 +90,12 @@ fn read_repeated(section: &[u8], scale: u64, times: &mut [i64]) -> Result<usize,
         return Err(SECTION);
     }
     let difference = divided.checked_mul(scale).ok_or(SECTION)?;
+    // Where the last time is in range, all are.
+    let span = difference.checked_mul(count as u64 - 1);
+    span.and_then(|span| later(times[0], span)).ok_or(SECTION)?;
     let mut time = times[0];
     for slot in &mut times[1..count] {
-        time = later(time, difference).ok_or(SECTION)?;
+        time = time.wrapping_add_unsigned(difference);
         *slot = time;
     }
     Ok(count)
@@ -107,25 +110,26 @@ fn later(time: i64, difference: u64) -> Option<i64> {
     time.checked_add_unsigned(difference)
 }
 
-/// Appends our writer's section of `times`: 1 to [`MAX_POINTS`] of them, ascending.
-pub fn append(times: &[i64], out: &mut Vec<u8>) {
-    let mut buffer = [0; MAX_POINTS];
-    let differences = &mut buffer[..times.len() - 1];
-    for (difference, pair) in differences.iter_mut().zip(times.windows(2)) {
-        *difference = pair[0].abs_diff(pair[1]);
-    }
-    let exponent = greatest_exponent(differences);
-    let scale = POWERS[usize::from(exponent)];
-    let greatest = differences.iter().max().map_or(0, |d| d / scale);
+/// Appends our writer's section of `times`: 1 to [`MAX_POINTS`] of them, ascending. `differences` is
+/// working space.
+pub fn append(times: &[i64], differences: &mut Vec<u64>, out: &mut Vec<u8>) {
+    differences.clear();
+    differences.extend(times.windows(2).map(|pair| pair[0].abs_diff(pair[1])));
     let mut head = |form: u8, exponent: u8| {
         out.push(form << 4 | exponent);
         out.extend_from_slice(&times[0].to_be_bytes());
     };
     if all_equal(differences) {
+        let exponent = greatest_exponent(&differences[..1]);
         head(REPEATED, exponent);
-        varint::append(differences[0] / scale, out);
+        varint::append(differences[0] / POWERS[usize::from(exponent)], out);
         varint::append(times.len() as u64, out);
-    } else if greatest < simple8b::GREATEST {
+        return;
+    }
+    let exponent = greatest_exponent(differences);
+    let scale = POWERS[usize::from(exponent)];
+    let greatest = differences.iter().max().map_or(0, |d| d / scale);
+    if greatest < simple8b::GREATEST {
         head(PACKED, exponent);
         if scale > 1 {
             differences.iter_mut().for_each(|d| *d /= scale);
@@ -133,7 +137,7 @@ pub fn append(times: &[i64], out: &mut Vec<u8>) {
         simple8b::pack(differences, out);
     } else {
         head(RAW, 0);
-        for difference in differences {
+        for difference in differences.iter() {
             out.extend_from_slice(&difference.to_be_bytes());
         }
     }
@@ -164,7 +168,7 @@ mod tests {
 
     fn section(times: &[i64]) -> Vec<u8> {
         let mut out = Vec::new();
-        append(times, &mut out);
+        append(times, &mut Vec::new(), &mut out);
         let mut back = [0; MAX_POINTS];
         assert_eq!(read(&out, &mut back), Ok(times.len()));
         assert_eq!(&back[..times.len()], times);

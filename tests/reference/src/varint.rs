@@ -3,43 +3,63 @@
 
 use crate::refusal::Place;
 
-/// The shift of the tenth and last group, which has one bit.
-const LAST_SHIFT: u32 = 63;
+/// The most bytes of a number; the last has one bit.
+pub const LONGEST: usize = 10;
 
 /// Reads the number at `at`: its value and the place after it, or the place of the byte that
 /// breaks it, which is the end of `bytes` when they run out.
-#[inline]
+#[inline(always)]
 pub fn read(bytes: &[u8], at: usize) -> Result<(u64, usize), Place> {
-    let mut value = 0;
-    let mut shift = 0;
-    let mut place = at;
-    loop {
-        let byte = *bytes.get(place).ok_or(place)?;
-        value |= u64::from(byte & 0x7f) << shift;
-        if byte < 0x80 {
-            let not_shortest = shift > 0 && byte == 0;
-            let past_64_bits = shift == LAST_SHIFT && byte > 1;
-            return match not_shortest || past_64_bits {
-                true => Err(place),
-                false => Ok((value, place + 1)),
-            };
-        }
-        if shift == LAST_SHIFT {
-            return Err(place);
-        }
-        shift += 7;
-        place += 1;
+    let rest = bytes.get(at..).ok_or(at)?;
+    match rest.first_chunk::<LONGEST>() {
+        // Here the length is known when this is compiled.
+        Some(longest) => read_first(longest, at),
+        None => read_near_end(rest, at),
     }
 }
 
+#[cold]
+fn read_near_end(rest: &[u8], at: usize) -> Result<(u64, usize), Place> {
+    read_first(rest, at)
+}
+
+/// Reads the first number, which stands at `at`.
+#[inline(always)]
+fn read_first(bytes: &[u8], at: usize) -> Result<(u64, usize), Place> {
+    let mut value = 0;
+    for (rank, &byte) in bytes.iter().enumerate().take(LONGEST) {
+        value |= u64::from(byte & 0x7f) << (7 * rank);
+        if byte < 0x80 {
+            let not_shortest = rank > 0 && byte == 0;
+            let past_64_bits = rank == LONGEST - 1 && byte > 1;
+            return match not_shortest || past_64_bits {
+                true => Err(at + rank),
+                false => Ok((value, at + rank + 1)),
+            };
+        }
+    }
+    Err(at + bytes.len().min(LONGEST - 1))
+}
+
 /// Appends the number.
-#[inline]
-pub fn append(mut value: u64, out: &mut Vec<u8>) {
-    while value >= 0x80 {
-        out.push(value as u8 | 0x80);
+pub fn append(value: u64, out: &mut Vec<u8>) {
+    let mut cells = [0; LONGEST];
+    let length = put(value, &mut cells);
+    out.extend_from_slice(&cells[..length]);
+}
+
+/// Puts the number in the first cells and answers how many.
+#[inline(always)]
+pub fn put(mut value: u64, cells: &mut [u8; LONGEST]) -> usize {
+    for (rank, cell) in cells.iter_mut().enumerate() {
+        *cell = value as u8;
+        if value < 0x80 {
+            return rank + 1;
+        }
+        *cell |= 0x80;
         value >>= 7;
     }
-    out.push(value as u8);
+    LONGEST
 }
 
 #[cfg(test)]
@@ -67,7 +87,7 @@ mod tests {
                 assert_eq!(read(&bytes, 0), Ok((value, bytes.len())));
             }
         }
-        assert_eq!(bytes(u64::MAX).len(), 10);
+        assert_eq!(bytes(u64::MAX).len(), LONGEST);
     }
 
     #[test]
