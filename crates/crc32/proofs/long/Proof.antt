@@ -52,14 +52,14 @@ loop-again c =
 narrow-requires : tie.Need-narrow-requires Inv-loop μ-loop
 narrow-requires c κs = search needs
 
-add-rest : tie.Need-add-rest Inv-loop μ-loop
-add-rest c = search needs
+add-bytes : tie.Need-add-bytes Inv-loop μ-loop
+add-bytes c = search needs
 
-rest-requires : tie.Need-rest-requires Inv-loop μ-loop
-rest-requires c κs = search needs
+bytes-requires : tie.Need-bytes-requires Inv-loop μ-loop
+bytes-requires c κs = search needs
 
 returns : tie.Need-returns Inv-loop μ-loop
-returns c = c .rest .ensures ∙ c .before .narrow .ensures ∙ c .before .before .before .loop .inv .1
+returns c = c .bytes .ensures ∙ c .before .narrow .ensures ∙ c .before .before .before .loop .inv .1
 
 pub long-spec : {M : Type 1} → statement M
 long-spec =
@@ -75,6 +75,6 @@ long-spec =
     loop-less
     loop-again
     narrow-requires
-    add-rest
-    rest-requires
+    add-bytes
+    bytes-requires
     returns)
