@@ -1,0 +1,3 @@
+-- What the program says of its reads.
+--   Input   what two reads of standard input give
+pub mod Input
