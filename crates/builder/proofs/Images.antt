@@ -1,6 +1,6 @@
 -- The two passes over a meaning: the first gives the lengths of blocks and index, and the second lays them.
 --   image-length    the length of an image
---   measured-past, measured   what the first pass gives
+--   measured-past, measured-blocks, measured   what the first pass gives
 --   lay-room, never-past      the second has its place
 --   footer-room, image-done   what it leaves, with header and footer
 use Prim.Native.Nat.{ℕ, _+_, _≤_, _<_}
@@ -20,7 +20,7 @@ use Rattle.numbers.proofs.BigEndian.{bigBytes-length}
 use Rattle.format.proofs.Splices.{splice-front}
 use Rattle.builder.specs.Steps.{Closed, seriesEnd}
 use Rattle.builder.proofs.Series.{image-laid}
-use Rattle.builder.specs.Passes.{SeriesRoom, Past}
+use Rattle.builder.specs.Passes.{SeriesRoom, Past, Measured}
 
 module _ (m : Meaning) where
   pub image-length : length (writerImage m) ≡ headerSize + length (writerBlocks m) + length (writerIndex headerSize m) + footerSize
@@ -42,43 +42,40 @@ module _ (m : Meaning) where
       (below-or imageMost (length (writerImage m)))
 
   module _ (block entry : ℕ) (bytes lent : List ℕ) (c : _≡_ {A = Closed} (record { block = block; entry = entry; bytes = bytes }) (seriesEnd false m headerSize 0 lent)) where
-    measured-block : block ≡ headerSize + length (writerBlocks m)
+    pub measured-blocks : block ≡ headerSize + length (writerBlocks m)
     unfolding seriesEnd
-    measured-block = ap (λ (x : Closed). x .block) c
-
-    measured-entry : entry ≡ length (writerIndex headerSize m)
-    unfolding seriesEnd
-    measured-entry = omega (arith, ap (λ (x : Closed). x .entry) c)
+    measured-blocks = ap (λ (x : Closed). x .block) c
 
     pub measured : block + entry + footerSize ≡ length (writerImage m)
-    measured = omega (arith, image-length, measured-block, measured-entry)
+    unfolding seriesEnd
+    measured = omega (arith, image-length, measured-blocks, ap (λ (x : Closed). x .entry) c)
 
-    -- ---- the second, the index at the end of the blocks
+  -- ---- the second, the index at the end of the blocks
 
-    module _ (out : List ℕ) (short : length (writerImage m) ≤ imageMost) (fits : length (writerImage m) ≤ length out) where
-      pub lay-room : SeriesRoom m headerSize block out
-      lay-room = record {
-        blocks = omega (arith, measured-block);
-        index = omega (arith, measured, measured-entry, fits);
-        most = omega (arith, measured, measured-entry, short);
-      }
+  module _ (block : ℕ) (out : List ℕ) (h : Measured m block out) where
+    pub lay-room : SeriesRoom m headerSize block out
+    lay-room = record {
+      blocks = omega (arith, h .blocks);
+      index = omega (arith, h .blocks, image-length, h .fits);
+      most = omega (arith, h .blocks, image-length, h .short);
+    }
 
-      pub never-past : Past (seriesEnd true m headerSize block out) → ⊥
+    pub never-past : Past (seriesEnd true m headerSize block out) → ⊥
+    unfolding seriesEnd
+    never-past p = p .past (omega (arith, h .blocks, image-length, h .short)) (omega (arith, h .blocks, image-length, h .short))
+
+    module _ (last end : ℕ) (after : List ℕ) (laid : _≡_ {A = Closed} (record { block = last; entry = end; bytes = after }) (seriesEnd true m headerSize block out)) where
+      end-is : end ≡ headerSize + length (writerBlocks m) + length (writerIndex headerSize m)
       unfolding seriesEnd
-      never-past h = h .past (omega (arith, measured-block, measured, short)) (omega (arith, measured, measured-entry, short))
+      end-is = ap (λ (x : Closed). x .entry) laid ∙ rw (h .blocks) refl
 
-      module _ (last end : ℕ) (after : List ℕ) (laid : _≡_ {A = Closed} (record { block = last; entry = end; bytes = after }) (seriesEnd true m headerSize block out)) where
-        end-is : end ≡ headerSize + length (writerBlocks m) + length (writerIndex headerSize m)
-        unfolding seriesEnd
-        end-is = ap (λ (x : Closed). x .entry) laid ∙ rw measured-block refl
+      after-is : after ≡ splice (headerSize + length (writerBlocks m)) (writerIndex headerSize m) (splice headerSize (writerBlocks m) out)
+      unfolding seriesEnd
+      after-is = ap (λ (x : Closed). x .bytes) laid ∙ rw (h .blocks) refl
 
-        after-is : after ≡ splice (headerSize + length (writerBlocks m)) (writerIndex headerSize m) (splice headerSize (writerBlocks m) out)
-        unfolding seriesEnd
-        after-is = ap (λ (x : Closed). x .bytes) laid ∙ rw measured-block refl
+      pub footer-room : (headerSize ≤ end) × (end + footerSize ≤ length out)
+      footer-room = (omega (arith, end-is), omega (arith, end-is, image-length, h .fits))
 
-        pub footer-room : (headerSize ≤ end) × (end + footerSize ≤ length out)
-        footer-room = (omega (arith, end-is), omega (arith, end-is, image-length, fits))
-
-        pub image-done : (done : List ℕ) → done ≡ splice end (bigBytes footerSize block) (splice 0 (magic ++ (version ∷ [])) after) → done ≡ overwrite (writerImage m) out
-        image-done done e =
-            e ∙ rw (end-is, measured-block, after-is) (image-laid m out (omega (arith, image-length, fits))) ∙ splice-front (writerImage m) out
+      pub image-done : (done : List ℕ) → done ≡ splice end (bigBytes footerSize block) (splice 0 (magic ++ (version ∷ [])) after) → done ≡ overwrite (writerImage m) out
+      image-done done e =
+          e ∙ rw (end-is, h .blocks, after-is) (image-laid m out (omega (arith, image-length, h .fits))) ∙ splice-front (writerImage m) out

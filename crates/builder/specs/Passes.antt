@@ -5,6 +5,7 @@
 --   Filling      the same, the fill in two arrays
 --   SeriesRoom   the series to come have their place
 --   Past         what is to come ends past every image
+--   Measured     how long an image is, and that it fits
 use Prim.Native.Nat.{ℕ, _+_, _*_, _^_, _≤_, _<_}
 use mathlib.Core.Path.{_≡_}
 use mathlib.Core.Bool.{Bool, true}
@@ -12,12 +13,12 @@ use mathlib.Core.List.{List, _++_}
 use lib.IntN.{ℤ}
 use lib.ListN.{length}
 use Rattle.format.specs.declared.Kind.{Kind}
-use Rattle.format.specs.Limits.{writerBlockMost, imageMost}
+use Rattle.format.specs.Limits.{headerSize, writerBlockMost, imageMost}
 use Rattle.format.specs.Choice.{every, ascends}
 use Rattle.format.specs.Meaning.{Point, Meaning, pointBefore}
 use Rattle.format.specs.WellFormed.{goodPoint}
 use Rattle.format.specs.Index.{entrySize}
-use Rattle.format.specs.Writer.{writerBlocks, writerIndex}
+use Rattle.format.specs.Writer.{writerBlocks, writerIndex, writerImage}
 use Rattle.block_writer.specs.Filled.{filled}
 use Rattle.builder.specs.declared.Places.{Places}
 use Rattle.builder.specs.Open.{entriesLeft}
@@ -59,3 +60,9 @@ pub record SeriesRoom (ss : Meaning) (b e : ℕ) (out : List ℕ) : Type 0 where
 -- one of the places is past every image
 pub record Past (c : Closed) : Type 0 where
   pub past : c .block ≤ imageMost → c .entry ≤ imageMost → ⊥
+
+-- the blocks of the image of m end at `block`, and the image fits
+pub record Measured (m : Meaning) (block : ℕ) (out : List ℕ) : Type 0 where
+  pub blocks : block ≡ headerSize + length (writerBlocks m)
+  pub short : length (writerImage m) ≤ imageMost
+  pub fits : length (writerImage m) ≤ length out

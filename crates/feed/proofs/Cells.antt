@@ -4,27 +4,18 @@
 --   held-length     how many points are held
 --   held-block      right after decoding, the points of the block are held
 --   points-blocks   where none is held, the points of the key are those of its blocks
-use Prim.Native.Nat.{ℕ, suc, _+_, _-_, _≤_, _<_}
+use Prim.Native.Nat.{ℕ, _-_, _≤_, _<_}
 use mathlib.Core.Path.{_≡_, sym, _∙_}
 use mathlib.Core.List.{List, [], _∷_}
-use native.Mathlib.Numerals.{add-one}
 use native.Mathlib.Omega.{arith}
 use lib.IntN.{ℤ, pos}
-use lib.ListN.{length, take, drop, getD, length-take, length-drop}
-use lib.Seq.{drop-cons}
+use lib.ListN.{length, take, drop, getD}
 use Rattle.format.specs.Meaning.{Point, pointOf}
 use Rattle.format.specs.Block.{pointsFrom}
+use Rattle.format.proofs.Parts.{part-next, part-length}
 use Rattle.format.proofs.Points.{points-length}
 use Rattle.feed.specs.declared.Feed.{Feed}
 use Rattle.feed.specs.Feeds.{blocksLeft, held, pointsLeft, advanced}
-
--- the next element of a part
-part-next : {A : Type 0} (xs : List A) (d : A) (i n : ℕ) → i < n → n ≤ length xs
-    → take (n - i) (drop i xs) ≡ getD xs i d ∷ take (n - (i + 1)) (drop (i + 1) xs)
-part-next xs d i n h inside =
-    let more : n - i ≡ suc (n - (i + 1)) = omega arith in
-    let there : i < length xs = omega arith in
-    rw (more, drop-cons xs i d, add-one i)
 
 module _ (f : Feed) (times : List ℤ) (values : List ℕ) where
   pub held-none : f .count ≤ f .next → held f times values ≡ []
@@ -40,8 +31,8 @@ module _ (f : Feed) (times : List ℤ) (values : List ℕ) where
   pub held-length : f .next ≤ f .count → f .count ≤ length times → f .count ≤ length values → length (held f times values) ≡ f .count - f .next
   unfolding held
   held-length h in-times in-values =
-      let long : length (take (f .count - f .next) (drop (f .next) times)) ≡ f .count - f .next = simp (length-take, length-drop) (omega arith) in
-      let wide : length (take (f .count - f .next) (drop (f .next) values)) ≡ f .count - f .next = simp (length-take, length-drop) (omega arith) in
+      let long = part-length times (f .next) (f .count) in-times in
+      let wide = part-length values (f .next) (f .count) in-values in
       points-length (take (f .count - f .next) (drop (f .next) times)) (take (f .count - f .next) (drop (f .next) values)) (wide ∙ sym long) ∙ long
 
   pub held-block : (ps : List Point) → f .next ≡ 0 → pointsFrom (take (f .count) times) (take (f .count) values) ≡ ps → held f times values ≡ ps

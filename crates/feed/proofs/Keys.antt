@@ -4,13 +4,13 @@
 --   begun, frame-not-refused        the first feed
 --   key-part                        the open key as a part of the image
 --   key-opened, no-key, key-not-entry, not-refused     the next key
-use Prim.Native.Nat.{ℕ, zero, suc, _+_, _-_, _≤_, zero-le}
+use Prim.Native.Nat.{ℕ, _+_, _-_, _≤_, zero-le}
 use mathlib.Core.Path.{_≡_, refl, ap, sym, subst, _∙_}
 use mathlib.Core.Bool.{true}
-use mathlib.Core.List.{List, [], _∷_}
+use mathlib.Core.List.{List, []}
 use native.Mathlib.Omega.{arith}
 use lib.ListN.{length, take, drop, length-take, length-drop}
-use lib.Seq.{take-nil, drop-drop, take-take}
+use lib.Seq.{drop-drop, take-take}
 use Rattle.format.specs.declared.Entry.{Entry}
 use Rattle.format.specs.declared.Refusal.{Refusal}
 use Rattle.format.specs.declared.ImagePlace.{ImagePlace}
@@ -28,6 +28,7 @@ use Rattle.index.proofs.Walks.{keyWith}
 use Rattle.index.proofs.Steps.{on-key, image-sound, index-rest, good-key, good-end, never-refused}
 use Rattle.index.proofs.Taken.{entry-not}
 use Rattle.feed.specs.declared.Feed.{Feed}
+use Rattle.format.proofs.Parts.{drop-take}
 use Rattle.feed.specs.Feeds.{keyOf, entriesLeft, keysLeft, held, seriesLeft, Stands, Done, Begun, KeyOpened}
 use Rattle.feed.proofs.Readings.{series-read, no-series, file-index}
 use Rattle.feed.proofs.Standing.{placed}
@@ -73,12 +74,6 @@ module _ (image : List ℕ) (good : isOk (readFile image) ≡ true) where
       let z : _≡_ {A = ℕ} 0 1 = cc in omega arith
 
 -- ---- the open key
-
-drop-take : (n m : ℕ) (xs : List ℕ) → drop n (take m xs) ≡ take (m - n) (drop n xs)
-drop-take zero m xs = let e : m - 0 ≡ m = omega arith in rw e
-drop-take (suc n) zero xs = let e : 0 - suc n ≡ 0 = omega arith in rw e
-drop-take (suc n) (suc m) [] = sym (take-nil (suc m - suc n))
-drop-take (suc n) (suc m) (x ∷ xs) = let e : suc m - suc n ≡ m - n = omega arith in rw e (drop-take n m xs)
 
 pub key-part : (image : List ℕ) (f : Feed) → Stands image f
     → take (f .start .0 + f .cursor .key .at .0 + f .cursor .key .len - (f .start .0 + f .cursor .key .at .0)) (drop (f .start .0 + f .cursor .key .at .0) image) ≡ keyOf image f

@@ -1,5 +1,4 @@
 -- Blocks and series that were read without a refusal, one by one.
---   ok-is                       equal results have equal values
 --   BlocksRead, blocks-read     the first block, and those after it
 --   SeriesRead, series-read     the first series, and those after it
 --   no-blocks, no-series        where there is none
@@ -13,10 +12,7 @@ use Rattle.format.specs.Meaning.{Point, Meaning}
 use Rattle.format.specs.Block.{readBlock}
 use Rattle.format.specs.Index.{IndexKey}
 use Rattle.format.specs.File.{readIndex, blockOf, readBlocks, readSeries, readFile}
-use Rattle.format.proofs.Results.{bind-ok}
-
-pub ok-is : {A : Type 0} {a b : A} → ok a ≡ ok b → a ≡ b
-ok-is e = cc
+use Rattle.format.proofs.Results.{bind-ok, ok-path}
 
 module _ (image : List ℕ) where
   pub record BlocksRead (e : Entry) (es : List Entry) (ps : List Point) : Type 0 where
@@ -31,11 +27,11 @@ module _ (image : List ℕ) where
   blocks-read e es ps read =
       let a = bind-ok (readBlock e (blockOf image e)) _ ps read in
       let b = bind-ok (readBlocks image es) _ ps (a .2) in
-      record { first = a .0; later = b .0; block = a .1; blocks = b .1; points = sym (ok-is (b .2)) }
+      record { first = a .0; later = b .0; block = a .1; blocks = b .1; points = sym (ok-path (b .2)) }
 
   pub no-blocks : (ps : List Point) → readBlocks image [] ≡ ok ps → ps ≡ []
   unfolding readBlocks
-  no-blocks ps read = sym (ok-is read)
+  no-blocks ps read = sym (ok-path read)
 
   pub record SeriesRead (k : IndexKey) (ks : List IndexKey) (m : Meaning) : Type 0 where
     pub points : List Point
@@ -49,11 +45,11 @@ module _ (image : List ℕ) where
   series-read k ks m read =
       let a = bind-ok (readBlocks image (k .entries)) _ m read in
       let b = bind-ok (readSeries image ks) _ m (a .2) in
-      record { points = a .0; later = b .0; blocks = a .1; series = b .1; meaning = sym (ok-is (b .2)) }
+      record { points = a .0; later = b .0; blocks = a .1; series = b .1; meaning = sym (ok-path (b .2)) }
 
   pub no-series : (m : Meaning) → readSeries image [] ≡ ok m → m ≡ []
   unfolding readSeries
-  no-series m read = sym (ok-is read)
+  no-series m read = sym (ok-path read)
 
   pub file-index : (m : Meaning) → readFile image ≡ ok m → (keys : List IndexKey) × (readIndex image ≡ ok keys) × (readSeries image keys ≡ ok m)
   unfolding readFile

@@ -1,13 +1,13 @@
 -- Lists of numbers below a bound, and of bytes: numbers below 256. A slice of u8 is a list of bytes (`shared-slice-known .given` says so of each index).
---   below-nil, below-cons, below-take, below-drop, below-append   parts and joins
+--   below-nil, below-cons, below-take, below-drop, below-append, below-right   parts and joins
 --   below-of-every, every-of-below   from and to a test
 --   below-each, each-below           from and to a fact of each element
 use Prim.Native.Nat.{ℕ, zero, suc, _+_, _<_}
 use mathlib.Core.Path.{_≡_, refl}
 use mathlib.Core.Bool.{true}
 use mathlib.Core.List.{List, [], _∷_, _++_}
-use lib.ListN.{take, drop}
-use lib.Seq.{getD-drop}
+use lib.ListN.{length, take, drop}
+use lib.Seq.{getD-drop, getD-append-add}
 use lib.Dec.{ltb}
 use borrow.Author.Tests.{ltb-true, lt-ltb}
 use Rattle.format.specs.Choice.{every, Each}
@@ -35,6 +35,10 @@ module _ (m : ℕ) where
   below-append [] ys h k i = k i
   below-append (x ∷ xs) ys h k zero = h 0
   below-append (x ∷ xs) ys h k (suc i) = below-append xs ys (λ j. h (suc j)) k i
+
+  -- what follows a part
+  pub below-right : (xs ys zs : List ℕ) → zs ≡ xs ++ ys → AllBelow m zs → AllBelow m ys
+  below-right xs ys zs e all i = rw (← getD-append-add xs ys i 0, ← e) (all (length xs + i))
 
   pub below-of-every : 0 < m → (xs : List ℕ) → every (λ x. ltb x m) xs ≡ true → AllBelow m xs
   below-of-every some [] e i = some

@@ -4,12 +4,14 @@
 --   answer-ok, answer-refused, answer-number   what an answer says of its result
 --   checkedOf, foundOf, blockReadOf, pointReadOf, writtenOf   the case that says a result
 --   ..-says                   and that it does
+--   checked-accepted, check-refused   the full check of an image: with totals it is accepted, with a refusal it is refused
 use Prim.Native.Nat.{ℕ}
 use mathlib.Core.Path.{_≡_, refl, sym, ap, _∙_}
 use native.Mathlib.Omega.{arith}
 use mathlib.Core.List.{List, [], _∷_}
 use lib.ListN.{getD}
 use lib.IntN.{ℤ}
+use mathlib.Core.Bool.{true}
 use Rattle.format.specs.declared.Entry.{Entry}
 use Rattle.format.specs.declared.Refusal.{Refusal}
 use Rattle.format.specs.declared.Refusal.the-variants.{ImageLength, Magic, Version, IndexStart, EntryPastIndex, KeyLength, UnknownKind, NoBlocks, KeyOrder, TimeOrder, BlockPlace, Checksum, BlockHead, Timestamps, Values, TimesDiffer, NoSuchKey, NoEntry, ShortBuffer, BadRoll, KindClash, ImageTooLong, NoPoint}
@@ -18,8 +20,10 @@ use Rattle.format.specs.declared.Found.{Found}
 use Rattle.format.specs.declared.BlockRead.{BlockRead}
 use Rattle.format.specs.declared.PointRead.{PointRead}
 use Rattle.format.specs.declared.Written.{Written}
-use Rattle.format.specs.Refusals.{Result, ok, refused, refusalNumber, Answer, gives, refuses, answerOf}
-use Rattle.format.specs.Acts.{checkedSays, foundSays, blockReadSays, pointReadSays, writtenSays}
+use Rattle.format.specs.Refusals.{Result, ok, refused, refusalNumber, Answer, gives, refuses, answerOf, isOk}
+use Rattle.format.specs.Meaning.{Meaning}
+use Rattle.format.specs.Acts.{checkResult, checkAnswer, checkedSays, foundSays, blockReadSays, pointReadSays, writtenSays}
+use Rattle.format.specs.File.{readFile}
 
 -- the refusals by number; none has the number 0
 byNumber : List Refusal
@@ -131,3 +135,25 @@ writtenOf (refused r place) = Written.Refused r
 pub written-says : (x : Result ℕ) → writtenSays (writtenOf x) ≡ answerOf x
 written-says (ok n) = refl
 written-says (refused r place) = refl
+
+-- ---- the full check of an image
+
+module _ (image : List ℕ) where
+  pub checked-accepted : (keys points : ℕ) → checkedSays (Checked.Totals keys points) ≡ checkAnswer image → isOk (readFile image) ≡ true
+  unfolding checkResult
+  checked-accepted keys points e = go (readFile image) refl
+    where
+      go : (r : Result Meaning) → readFile image ≡ r → isOk r ≡ true
+      go (ok m) read = refl
+      go (refused r place) read = let no = rw read at e in let z : _≡_ {A = ℕ} 0 1 = cc in absurd (omega arith)
+
+  pub check-refused : (why : Refusal) → checkedSays (Checked.Refused why) ≡ checkAnswer image
+      → (q : Refusal) × (place : ℕ) × (readFile image ≡ refused q place) × (refusalNumber why ≡ refusalNumber q)
+  unfolding checkResult
+  check-refused why e = go (readFile image) refl
+    where
+      go : (r : Result Meaning) → readFile image ≡ r → (q : Refusal) × (place : ℕ) × (readFile image ≡ refused q place) × (refusalNumber why ≡ refusalNumber q)
+      go (ok m) read = let no = rw read at e in let z : _≡_ {A = ℕ} 0 1 = cc in absurd (omega arith)
+      go (refused r place) read =
+          let is : _≡_ {A = Answer (ℕ × ℕ)} (refuses (refusalNumber why)) (refuses (refusalNumber r)) = rw read at e in
+          (r, place, read, refuses-path is)

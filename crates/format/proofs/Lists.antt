@@ -8,6 +8,7 @@
 --   flatMap-append                          a list mapped and joined
 --   flatMap-length, flatMap-most, flatMap-each   and its length: of parts of one length, of parts that have a most, and each part is no longer
 --   not-empty, has-one, nothing-left        a list with an element, a list without
+--   nothing-before                          a list after an empty one
 --   part-lent                               a part that is lent from a place to its end
 use Prim.Native.Nat.{ℕ, _+_, _-_, _*_, _≤_}
 use mathlib.Core.Path.{_≡_, refl, ap}
@@ -116,6 +117,10 @@ not-empty (x ∷ xs) h = refl
 pub has-one : {A : Type 0} (xs : List A) → isEmpty xs ≡ false → 1 ≤ length xs
 has-one [] e = let z : _≡_ {A = ℕ} 0 1 = cc in absurd (omega arith)
 has-one (x ∷ xs) e = omega arith
+
+pub nothing-before : {A : Type 0} (none xs : List A) → length none ≡ 0 → none ++ xs ≡ xs
+nothing-before [] xs e = refl
+nothing-before (x ∷ none) xs e = absurd (omega (arith, e))
 
 pub nothing-left : {A : Type 0} (xs : List A) → isEmpty xs ≡ true → xs ≡ []
 nothing-left [] e = refl

@@ -3,14 +3,14 @@
 --   and-true, or-false                a conjunction that passes, a disjunction that fails
 --   both-left, both-right, both-true  the parts of a conjunction
 --   every-at, every-imply             of an element; another test that follows
---   every-append, every-take, every-drop, every-map   joins, parts and images
+--   every-append, every-drop, every-map   joins, parts and images
 use Prim.Native.Nat.{ℕ, zero, suc, _<_}
 use mathlib.Core.Path.{_≡_, refl, sym, _∙_}
 use mathlib.Core.Logic.{_↔_, _⊎_, inl, inr}
 use mathlib.Core.Bool.{Bool, true, false, true≢false, _&&_, _||_}
 use mathlib.Core.List.{List, [], _∷_, _++_, map}
 use native.Mathlib.Omega.{arith}
-use lib.ListN.{length, take, drop, getD}
+use lib.ListN.{length, drop, getD}
 use Rattle.format.specs.Choice.{every}
 
 pub true-or-false : (a : Bool) → (a ≡ true) ⊎ (a ≡ false)
@@ -60,12 +60,6 @@ module _ {A : Type 0} where
     every-append [] ys e f = f
     every-append (x ∷ xs) ys e f =
         both-true (both-left (p x) (every p xs) e) (every-append xs ys (both-right (p x) (every p xs) e) f)
-
-    pub every-take : (n : ℕ) (xs : List A) → every p xs ≡ true → every p (take n xs) ≡ true
-    every-take zero xs e = refl
-    every-take (suc n) [] e = refl
-    every-take (suc n) (x ∷ xs) e =
-        both-true (both-left (p x) (every p xs) e) (every-take n xs (both-right (p x) (every p xs) e))
 
     pub every-drop : (n : ℕ) (xs : List A) → every p xs ≡ true → every p (drop n xs) ≡ true
     every-drop zero xs e = e

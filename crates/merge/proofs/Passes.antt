@@ -2,7 +2,6 @@
 --   Started, started       the first feed of an image
 --   firstSpot, whole-same, passing-starts   where a pass starts
 --   passing-past, passing-end, passing-ready, next-added   step by step
---   passed-ended, passed-past   what a pass answers, by cases
 use Prim.Native.Nat.{ℕ, _≤_}
 use mathlib.Core.Path.{_≡_, refl, ap, ap₂, sym, subst, _∙_}
 use mathlib.Core.Bool.{Bool, true}
@@ -28,9 +27,8 @@ use Rattle.builder.specs.Passes.{SeriesRoom, Past}
 use Rattle.builder.proofs.SeriesPasses.{past-first, series-none}
 use Rattle.feed.specs.declared.Feed.{Feed}
 use Rattle.feed.specs.Feeds.{seriesLeft, Stands, Done, Begun}
-use Rattle.merge.specs.declared.Passed.{Passed}
 use Rattle.merge.specs.Turns.{meaningOf, mergedOf}
-use Rattle.merge.specs.Adding.{nextSeries, later, SeriesReady, openClosed, OneAdded, SeriesAddedAs, Lent, Passing, laterClosed, NextAdded, NextAddedAs, PassReady, allClosed, PassedAs}
+use Rattle.merge.specs.Adding.{nextSeries, later, SeriesReady, openClosed, OneAdded, SeriesAddedAs, Lent, Passing, laterClosed, NextAdded, NextAddedAs, PassReady, allClosed}
 use Rattle.merge.specs.declared.Spot.{Spot}
 use Rattle.merge.specs.declared.SeriesAdded.{SeriesAdded}
 use Rattle.merge.proofs.Keys.{Turned}
@@ -132,12 +130,3 @@ module _ {laying : Bool} {older newer : List ℕ} {z : Spot} {out : List ℕ} (h
     next-added (SeriesAdded.Series z′) out′ o = passing-on z′ out′ o
     next-added SeriesAdded.End out′ o = absurd o
     next-added SeriesAdded.TooLong out′ past = subst Past whole-is past
-
--- ---- what a pass answers
-
-module _ (whole : Closed) (r : Passed) (out : List ℕ) where
-  pub passed-ended : (b e : ℕ) → r ≡ Passed.Ended b e → PassedAs whole r out → _≡_ {A = Closed} (record { block = b; entry = e; bytes = out }) whole
-  passed-ended b e f h = subst (λ (z : Passed). PassedAs whole z out) f h
-
-  pub passed-past : r ≡ Passed.TooLong → PassedAs whole r out → Past whole
-  passed-past f h = subst (λ (z : Passed). PassedAs whole z out) f h

@@ -1,18 +1,14 @@
 -- The next point of a merge, by which fronts have one and by their times.
---   stored                                       a time that the code holds by its bits
 --   pick-only-newer, pick-only-older             where a front has none
 --   pick-older, pick-newer, pick-both            by the times
 --   front-point, front-end, front-stays          what a step of a feed says of a front
-use Prim.Native.Nat.{ℕ, _^_, _<_}
+use Prim.Native.Nat.{ℕ}
 use mathlib.Core.Path.{_≡_, refl, sym, _∙_}
 use mathlib.Core.Bool.{true, false}
 use mathlib.Core.List.{List, []}
 use native.Mathlib.Omega.{arith}
 use lib.IntN.{ℤ}
-use lib.Signed.{ltZ, mag}
-use mir.Syntax.{w64}
-use mir.Val.{toZ, ofZ}
-use mir.ValLaws.{toZ-ofZ}
+use lib.Signed.{ltZ}
 use Rattle.format.specs.Meaning.{Point, pointOf}
 use Rattle.format.proofs.Orders.{time-total}
 use Rattle.merging.proofs.Walk.{points-older, points-newer, points-both}
@@ -21,10 +17,6 @@ use Rattle.feed.specs.Feeds.{pointsLeft, seriesLeft, Stands, Done, PointTaken}
 use Rattle.merge.specs.declared.Front.{Front}
 use Rattle.merge.specs.declared.Picked.{Picked}
 use Rattle.merge.specs.Fronts.{frontPoint, leftOf, PickedAs, FrontAt, FrontHas}
-
--- a time that the code holds by its bits
-pub stored : (t : ℤ) → mag t < 2 ^ 63 → toZ w64 (ofZ w64 t) ≡ t
-stored t fits = toZ-ofZ w64 t (record { sfits = fits })
 
 -- the picks of the older's point, of the newer's, and of both
 abbrev pub olderPick : Front → Picked

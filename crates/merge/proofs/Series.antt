@@ -18,9 +18,9 @@ use Rattle.builder.specs.Passes.{Filling, Past}
 use Rattle.builder.proofs.SeriesPasses.{good-key, begin-room, begin-filling, series-same, series-room, past-series}
 use Rattle.feed.specs.declared.Feed.{Feed}
 use Rattle.feed.proofs.Cells.{points-blocks}
-use Rattle.writer.specs.Adding.{closedKey}
+use Rattle.writer.specs.Adding.{noKey, closedKey}
 use Rattle.merge.specs.Turns.{KeyDone}
-use Rattle.merge.specs.Adding.{mergedPoints, PointsReady, closedAt, nextSeries, later, SeriesReady, openClosed, OneAdded}
+use Rattle.merge.specs.Adding.{mergedPoints, PointsReady, nextSeries, later, SeriesReady, openClosed, OneAdded}
 
 module _ {second : Bool} {older : List ℕ} {x : Feed} {olderTimes : List ℤ} {olderValues : List ℕ}
     {newer : List ℕ} {y : Feed} {newerTimes : List ℤ} {newerValues : List ℕ}
@@ -33,7 +33,7 @@ module _ {second : Bool} {older : List ℕ} {x : Feed} {olderTimes : List ℤ} {
   rest = later older x newer y
 
   abbrev places : Places
-  places = closedAt b e
+  places = noKey b e
 
   pub begin-asks : (length (one .key) ≤ keyMost) × PlacesFit places × Room laying (e + length (one .key) + 5) out
   begin-asks = (

@@ -1,7 +1,7 @@
 -- An entry of the index is passed, without its block.
 --   entry-skipped   the feed past it
 --   none-skipped    where none is left, the feed stays
-use Prim.Native.Nat.{ℕ, _-_, _<_, zero-le}
+use Prim.Native.Nat.{ℕ, _<_, zero-le}
 use mathlib.Core.Path.{_≡_, refl, ap, subst}
 use mathlib.Core.List.{List}
 use native.Mathlib.Omega.{arith}

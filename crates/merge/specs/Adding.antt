@@ -4,8 +4,7 @@
 --   SeriesReady, SeriesAddedAs   a series
 --   Lent             cells for the blocks
 --   Passing, laterClosed, NextAddedAs   between two series
---   MergeReady, PassReady, allClosed, PassedAs   all series
---   Measured         the image that is laid
+--   MergeReady, PassReady, allClosed   all series
 use Prim.Native.Nat.{ℕ, _+_, _≤_, _<_}
 use mathlib.Core.Path.{_≡_}
 use mathlib.Core.Bool.{Bool, true}
@@ -19,7 +18,6 @@ use Rattle.format.specs.File.{accepted}
 use Rattle.format.specs.Meaning.{Point, Series, Meaning}
 use Rattle.format.specs.WellFormed.{goodSeries}
 use Rattle.format.specs.Merge.{mergePoints, merge}
-use Rattle.format.specs.Writer.{writerBlocks, writerImage}
 use Rattle.builder.specs.declared.Places.{Places}
 use Rattle.builder.specs.Steps.{Closed, seriesEnd}
 use Rattle.builder.specs.Passes.{Filling, SeriesRoom, Past}
@@ -29,7 +27,6 @@ use Rattle.writer.specs.Adding.{closedKey}
 use Rattle.merge.specs.declared.PointsAdded.{PointsAdded}
 use Rattle.merge.specs.declared.Spot.{Spot}
 use Rattle.merge.specs.declared.SeriesAdded.{SeriesAdded}
-use Rattle.merge.specs.declared.Passed.{Passed}
 use Rattle.merge.specs.Fronts.{SideReady}
 use Rattle.merge.specs.Turns.{mergedOf, chosenKey, chosenKind, KeyDone}
 
@@ -75,10 +72,6 @@ nextSeries second older x newer y = record {
 -- the series after it
 abbrev pub later : (older : List ℕ) → (x : Feed) → (newer : List ℕ) → (y : Feed) → Meaning
 later older x newer y = merge (seriesLeft older x) (seriesLeft newer y)
-
--- the places before a key is opened
-abbrev pub closedAt : (b e : ℕ) → Places
-closedAt b e = record { block = b; entry = e; filled = 0; blocks = 0; count = 0 }
 
 pub record SeriesReady (second : Bool) (older : List ℕ) (x : Feed) (olderTimes : List ℤ) (olderValues : List ℕ)
     (newer : List ℕ) (y : Feed) (newerTimes : List ℤ) (newerValues : List ℕ)
@@ -160,13 +153,3 @@ pub record PassReady (older newer : List ℕ) (laying : Bool) (index : ℕ) (out
 -- what all series come to
 abbrev pub allClosed : (laying : Bool) → (older newer : List ℕ) → (index : ℕ) → (out : List ℕ) → Closed
 allClosed laying older newer index out = seriesEnd laying (mergedOf older newer) headerSize index out
-
-abbrev pub PassedAs : (whole : Closed) → Passed → (out : List ℕ) → Type 0
-PassedAs whole (Passed.Ended b e) out = _≡_ {A = Closed} (record { block = b; entry = e; bytes = out }) whole
-PassedAs whole Passed.TooLong out = Past whole
-
--- the blocks of an image end at `block`, and it fits
-pub record Measured (m : Meaning) (block : ℕ) (out : List ℕ) : Type 0 where
-  pub blocks : block ≡ headerSize + length (writerBlocks m)
-  pub short : length (writerImage m) ≤ imageMost
-  pub fits : length (writerImage m) ≤ length out

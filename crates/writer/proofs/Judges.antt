@@ -1,6 +1,6 @@
 -- The test that gives a pass up, and the answer to the length of an image.
 --   past-block, past-entry                   the test, by its parts
---   past-both, past-neither                  what it says
+--   past-both, past-neither, past-near       what it says
 --   judged-long, judged-short, judged-fits   the answer, by its tests
 --   Answers, judged-answers                  it is the answer of the acts, with what becomes of the buffer
 use Prim.Native.Nat.{ℕ, _≤_, _<_}
@@ -22,6 +22,7 @@ use Rattle.format.specs.Meaning.{Meaning}
 use Rattle.format.specs.Writer.{writerImage}
 use Rattle.format.specs.Acts.{laid, imageResult, writtenSays, sized}
 use Rattle.format.proofs.Cases.{below-or}
+use Rattle.builder.specs.Passes.{Near}
 use Rattle.writer.specs.Judging.{pastImage, judged}
 
 module _ (b e : ℕ) where
@@ -48,6 +49,9 @@ module _ (b e : ℕ) where
       by false p true q k = let w : _≡_ {A = ℕ} 0 1 = cc in absurd (omega arith)
       by true p false q k = let w : _≡_ {A = ℕ} 0 1 = cc in absurd (omega arith)
       by true p true q k = let w : _≡_ {A = ℕ} 0 1 = cc in absurd (omega arith)
+
+  pub past-near : pastImage b e ≡ false → Near b e
+  past-near h = let within = past-neither h in record { block-near = omega (arith, within .0); entry-near = omega (arith, within .1) }
 
 module _ (total room : ℕ) where
   pub judged-long : imageMost < total → judged total room ≡ Written.Refused ImageTooLong

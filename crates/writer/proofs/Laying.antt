@@ -1,26 +1,28 @@
 -- The two passes over any meaning m, judged between them: the answer, and what becomes of the lent buffer.
 --   image-long                 the first pass was given up: 22
 --   image-left                 `judge` refuses: 22 or 19
---   second-room, second-ends   the second pass has its place and is not given up
---   finish-asks, image-written   header and footer complete the image
+--   image-fits                 it does not: the second pass has its place
+--   image-written              the second pass, header and footer leave the image
+--   passed-ended, passed-past  what a pass answers, by cases
 use Prim.Native.Nat.{ℕ, _+_, _≤_}
-use mathlib.Core.Path.{_≡_, ap, sym, _∙_}
-use mathlib.Core.Bool.{true, false}
-use mathlib.Core.List.{List, [], _∷_, _++_}
+use mathlib.Core.Path.{_≡_, ap, sym, subst, _∙_}
+use mathlib.Core.Bool.{false}
+use mathlib.Core.List.{List}
 use lib.ListN.{length}
 use Rattle.format.specs.declared.Refusal.{Refusal}
 use Rattle.format.specs.declared.Refusal.the-variants.{ImageTooLong}
 use Rattle.format.specs.declared.Written.{Written}
-use Rattle.format.specs.Limits.{headerSize, footerSize, imageMost}
-use Rattle.format.specs.Bytes.{bigBytes, overwrite, splice}
+use Rattle.format.specs.Limits.{headerSize, imageMost}
+use Rattle.format.specs.Bytes.{overwrite}
 use Rattle.format.specs.Meaning.{Meaning}
-use Rattle.format.specs.File.{magic, version}
 use Rattle.format.specs.Writer.{writerImage}
 use Rattle.format.specs.Acts.{laid, imageResult, writtenSays, sized}
 use Rattle.builder.specs.Steps.{Closed, seriesEnd}
-use Rattle.builder.specs.Passes.{SeriesRoom, Past}
-use Rattle.builder.proofs.Images.{measured-past, measured, lay-room, never-past, footer-room, image-done}
+use Rattle.builder.specs.Passes.{Past, Measured}
+use Rattle.builder.proofs.Images.{measured-past, measured-blocks, measured}
+use Rattle.writer.specs.declared.Passed.{Passed}
 use Rattle.writer.specs.Judging.{judged}
+use Rattle.writer.specs.Adding.{PassedAs}
 use Rattle.writer.proofs.Judges.{Answers, judged-answers, judged-long}
 use Rattle.format.specs.Refusals.{answerOf}
 
@@ -50,17 +52,17 @@ module _ (m : Meaning) (out : List ℕ) where
       over : (length (writerImage m) ≤ imageMost) × (length (writerImage m) ≤ length out) × (laid (imageResult m out) out ≡ overwrite (writerImage m) out)
       over = answers .laid-over n (sym is-judged ∙ e)
 
-      pub second-room : SeriesRoom m headerSize block out
-      second-room = lay-room m block entry bytes lent c out (over .0) (over .1)
+      pub image-fits : Measured m block out
+      image-fits = record { blocks = measured-blocks m block entry bytes lent c; short = over .0; fits = over .1 }
 
-      pub second-ends : Past (seriesEnd true m headerSize block out) → ⊥
-      second-ends h = never-past m block entry bytes lent c out (over .0) (over .1) h
+      pub image-written : (done : List ℕ) → done ≡ overwrite (writerImage m) out → Right (Written.Bytes n) done
+      image-written done f = (ap writtenSays (sym e ∙ is-judged) ∙ answers .says, f ∙ sym (over .2))
 
-      -- the second pass ended
-      module _ (last end : ℕ) (after : List ℕ) (d : _≡_ {A = Closed} (record { block = last; entry = end; bytes = after }) (seriesEnd true m headerSize block out)) where
-        pub finish-asks : (headerSize ≤ end) × (end + footerSize ≤ length out)
-        finish-asks = footer-room m block entry bytes lent c out (over .0) (over .1) last end after d
+-- ---- what a pass answers
 
-        pub image-written : (done : List ℕ) → done ≡ splice end (bigBytes 8 block) (splice 0 (magic ++ (version ∷ [])) after) → Right (Written.Bytes n) done
-        image-written done f =
-            (ap writtenSays (sym e ∙ is-judged) ∙ answers .says, image-done m block entry bytes lent c out (over .0) (over .1) last end after d done f ∙ sym (over .2))
+module _ (whole : Closed) (r : Passed) (out : List ℕ) where
+  pub passed-ended : (b e : ℕ) → r ≡ Passed.Ended b e → PassedAs whole r out → _≡_ {A = Closed} (record { block = b; entry = e; bytes = out }) whole
+  passed-ended b e f h = subst (λ (x : Passed). PassedAs whole x out) f h
+
+  pub passed-past : r ≡ Passed.TooLong → PassedAs whole r out → Past whole
+  passed-past f h = subst (λ (x : Passed). PassedAs whole x out) f h

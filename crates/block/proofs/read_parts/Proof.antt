@@ -8,13 +8,11 @@ use lib.Seq.{take-all}
 use borrow.Author.Needs.{needs}
 use Rattle.format.specs.declared.Refusal.the-variants.{Timestamps, Values}
 use Rattle.format.specs.Timestamps.{readTimes}
-use Rattle.format.specs.Block.{readValues, pointsFrom}
+use Rattle.format.specs.Block.{readValues}
 use Rattle.format.proofs.Parts.{part-length}
-use Rattle.format.proofs.Points.{points-times, points-values, points-length}
 use Rattle.block.specs.Answers.{timesPlace, valuesPlace, valuesAnswer, ValuesLaid}
 use Rattle.block.proofs.Sections.{TimesAre, BrokenAt, times-count, times-broken, times-few, values-read, values-broken}
-use Rattle.block.proofs.Bodies.{parts-times, parts-values, parts-read}
-use Rattle.block.proofs.Answers.{refused-answer, points-answer}
+use Rattle.block.proofs.Parts.{times-refused, values-refused, both-read}
 use Rattle.block.proofs.read_parts.Statement.{statement}
 use Rattle.block.proofs.read_parts.Tie as tie
 
@@ -79,7 +77,7 @@ same-length c = search needs
 returns : tie.Need-returns
 returns c =
     let a = c .before .before .before .before .before .before .before .before .before .args in
-    refused-answer _ _ _ _ Timestamps (c .times-place .result + (a .next + a .offset)) (parts-times (a .kind) (a .offset) (a .next) (a .split) (a .block .now) _ (no-times c .refusal))
+    times-refused (a .kind) (a .offset) (a .next) (a .split) (a .block .now) _ _ _ _ (c .times-place .result) _ (no-times c)
 
 sub-read-values : tie.Need-sub-read-values
 sub-read-values c = search needs
@@ -134,10 +132,6 @@ module _ (c : tie.After-read-values) where
       subst (λ (l : List ℕ). ValuesLaid (readValues (from .args .kind) (n known) 0 l) (from .args .values .now) (c .read-values .last .1 .1 .1 .0))
       (values-part from) (c .read-values .ensures .1)
 
-  -- as many as there are times
-  counted : readValues (from .args .kind) (length (stamps known .times)) (valuesPlaceAt from) (valuesPart from) ≡ readValues (from .args .kind) (n known) (valuesPlaceAt from) (valuesPart from)
-  counted = ap (λ (m : ℕ). readValues (from .args .kind) m (valuesPlaceAt from) (valuesPart from)) (stamps known .count)
-
 -- the values are broken
 no-values : (c : tie.After-values-place) →
     let s = from (c .before .before .before .before .before) in
@@ -162,8 +156,7 @@ returns-2 : tie.Need-returns-2
 returns-2 c =
     let r = c .before .before .before .before .before in
     let a = from r .args in
-    refused-answer _ _ _ _ Values (c .values-place .result + (a .split + a .offset))
-    (parts-values (a .kind) (a .offset) (a .next) (a .split) (a .block .now) (stamps (known r) .times) (stamps (known r) .read) _ (counted r ∙ no-values c .refusal))
+    values-refused (a .kind) (a .offset) (a .next) (a .split) (a .block .now) _ _ _ _ (n (known r)) (stamps (known r)) (c .values-place .result) _ (no-values c)
 
 same-length-4 : tie.Need-same-length-4
 same-length-4 c = search needs
@@ -175,14 +168,8 @@ returns-3 : tie.Need-returns-3
 returns-3 c =
     let r = c .before .before .before .before in
     let a = from r .args in
-    let ts = stamps (known r) in
-    let vs = values-read (a .kind) (valuesPlaceAt (from r)) (n (known r)) (valuesPart (from r)) (a .values .now) (r .read-values .last .1 .1 .1 .0) (sym (c .enum-told2 .given .1) ∙ told r) (cells r) in
-    let same : length (vs .values) ≡ length (ts .times) = vs .count ∙ sym (ts .count) in
-    points-answer _ _ _ _ (n (known r)) (pointsFrom (ts .times) (vs .values))
-    (parts-read (a .kind) (a .offset) (a .next) (a .split) (a .block .now) (ts .times) (ts .read) (vs .values) (counted r ∙ vs .read))
-    (points-length (ts .times) (vs .values) same ∙ ts .count)
-    (rw (points-times (ts .times) (vs .values) same) (ts .cells))
-    (rw (points-values (ts .times) (vs .values) same) (vs .cells))
+    both-read (a .kind) (a .offset) (a .next) (a .split) (a .block .now) _ _ _ _ (n (known r)) (stamps (known r))
+    (values-read (a .kind) (valuesPlaceAt (from r)) (n (known r)) (valuesPart (from r)) (a .values .now) (r .read-values .last .1 .1 .1 .0) (sym (c .enum-told2 .given .1) ∙ told r) (cells r))
 
 pub read-parts-spec : {M : Type 1} → statement M
 read-parts-spec =

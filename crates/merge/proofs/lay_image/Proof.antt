@@ -2,15 +2,15 @@
 use borrow.Author.Needs.{needs}
 use mathlib.Core.Path.{_∙_}
 use native.Mathlib.Omega.{arith}
-use Rattle.merge.proofs.Passes.{passed-ended, passed-past}
-use Rattle.merge.proofs.Acts.{second-room, second-ends, finish-asks, image-laid}
+use Rattle.builder.proofs.Images.{lay-room, never-past, footer-room, image-done}
+use Rattle.writer.proofs.Laying.{passed-ended, passed-past}
 use Rattle.merge.proofs.lay_image.Statement.{statement}
 use Rattle.merge.proofs.lay_image.Tie as tie
 
 pass-requires : tie.Need-pass-requires
 pass-requires c κs =
     let p = c .before .before .before .before .before .before .before .before .before .before .before .before .before .pre in
-    (record { ready = p .0; room = λ l. second-room _ _ _ (p .1) }, p .2)
+    (record { ready = p .0; room = λ l. lay-room _ _ _ (p .1) }, p .2)
 
 enum-known-laid : tie.Need-enum-known-laid
 enum-known-laid c = search needs
@@ -40,12 +40,12 @@ same-length-7 : tie.Need-same-length-7
 same-length-7 c = c .before .before .before .before .before .before .before .before .before .before .before .before .before .pass .kept .1 .1 .1 .1 .1 .1 .1 .1 .1 .1 .0
 
 returns : tie.Need-returns
-returns c = absurd (second-ends _ _ _ (c .before .before .before .before .before .before .before .before .before .before .before .before .before .before .before .before .before .before .before .before .before .before .before .before .before .before .before .pre .1) (passed-past _ _ _ (c .enum-told .given .1) (c .before .before .before .before .before .before .before .before .before .before .before .before .before .pass .ensures)))
+returns c = absurd (never-past _ _ _ (c .before .before .before .before .before .before .before .before .before .before .before .before .before .before .before .before .before .before .before .before .before .before .before .before .before .before .before .pre .1) (passed-past _ _ _ (c .enum-told .given .1) (c .before .before .before .before .before .before .before .before .before .before .before .before .before .pass .ensures)))
 
 finish-requires : tie.Need-finish-requires
 finish-requires c κs =
     let p = c .before .before .before .before .before .before .before .before .before .before .before .before .before .before .before .pass in
-    let asks = finish-asks _ _ _ (c .before .before .before .before .before .before .before .before .before .before .before .before .before .before .before .before .before .before .before .before .before .before .before .before .before .before .before .before .before .pre .1) _ _ _ (passed-ended _ _ _ _ _ (c .before .before .laid .given .1) (p .ensures)) in
+    let asks = footer-room _ _ _ (c .before .before .before .before .before .before .before .before .before .before .before .before .before .before .before .before .before .before .before .before .before .before .before .before .before .before .before .before .before .pre .1) _ _ _ (passed-ended _ _ _ _ _ (c .before .before .laid .given .1) (p .ensures)) in
     (asks .0, omega (arith, asks .1, p .kept .1 .1 .1 .1 .1 .1 .0))
 
 same-length-8 : tie.Need-same-length-8
@@ -70,7 +70,7 @@ same-length-14 : tie.Need-same-length-14
 same-length-14 c = c .before .before .before .before .before .before .before .before .before .before .before .before .before .before .before .before .before .before .pass .kept .1 .1 .1 .1 .1 .1 .1 .1 .1 .1 .0
 
 returns-2 : tie.Need-returns-2
-returns-2 c = image-laid _ _ _ (c .before .before .before .before .before .before .before .before .before .before .before .before .before .before .before .before .before .before .before .before .before .before .before .before .before .before .before .before .before .before .before .before .pre .1) _ _ _ (passed-ended _ _ _ _ _ (c .before .before .before .before .before .laid .given .1) (c .before .before .before .before .before .before .before .before .before .before .before .before .before .before .before .before .before .before .pass .ensures)) _ (c .before .before .finish .ensures)
+returns-2 c = image-done _ _ _ (c .before .before .before .before .before .before .before .before .before .before .before .before .before .before .before .before .before .before .before .before .before .before .before .before .before .before .before .before .before .before .before .before .pre .1) _ _ _ (passed-ended _ _ _ _ _ (c .before .before .before .before .before .laid .given .1) (c .before .before .before .before .before .before .before .before .before .before .before .before .before .before .before .before .before .before .pass .ensures)) _ (c .before .before .finish .ensures)
 
 pub lay-image-spec : {M : Type 1} → statement M
 lay-image-spec =

@@ -7,7 +7,7 @@ use mathlib.Core.List.{List}
 use Rattle.format.specs.Refusals.{Result, answerOf}
 use Rattle.format.specs.File.{accepted}
 use Rattle.format.specs.Acts.{laid, checkedSays, sized}
-use Rattle.unroller.proofs.Acts.{checked-accepted}
+use Rattle.format.proofs.Answers.{checked-accepted}
 use Rattle.merge.proofs.Acts.{merge-older, merge-newer, merge-clash, merge-fits}
 use Rattle.merge.proofs.merge.Statement.{statement}
 use Rattle.merge.proofs.merge.Tie as tie

@@ -2,24 +2,19 @@
 use borrow.Author.Needs.{needs}
 use Prim.Native.Nat.{ℕ, _+_}
 use mathlib.Core.Path.{_≡_, refl, ap, _∙_}
-use mathlib.Core.Bool.{true, false}
-use mathlib.Core.List.{List, [], _∷_, _++_}
+use mathlib.Core.Bool.{false}
+use mathlib.Core.List.{List, [], _++_}
 use native.Mathlib.Omega.{arith}
 use lib.ListN.{length}
 use Rattle.builder.specs.Steps.{Closed}
 use Rattle.writer.specs.Judging.{judged}
 use Rattle.merge.specs.Adding.{allClosed}
-use Rattle.merge.proofs.Passes.{passed-ended, passed-past}
-use Rattle.merge.proofs.Acts.{answer-long, answer-left, image-fits, answer-laid}
+use Rattle.format.proofs.Lists.{nothing-before}
+use Rattle.format.proofs.Tests.{never}
+use Rattle.writer.proofs.Laying.{image-long, image-left, image-fits, image-written, passed-ended, passed-past}
+use Rattle.merge.specs.Turns.{mergedOf}
 use Rattle.merge.proofs.merge_lent.Statement.{statement}
 use Rattle.merge.proofs.merge_lent.Tie as tie
-
-nothing-before : (none out : List ℕ) → length none ≡ 0 → none ++ out ≡ out
-nothing-before [] out e = refl
-nothing-before (b ∷ none) out e = absurd (omega (arith, e))
-
-untrue : {X : Type 0} → false ≡ true → X
-untrue {X} e = let z : _≡_ {A = ℕ} 0 1 = cc in absurd (omega arith)
 
 -- the first pass, which is lent no byte
 module _ (c : tie.After-pass) where
@@ -62,7 +57,7 @@ slice-aggregate-pass : tie.Need-slice-aggregate-pass
 slice-aggregate-pass c = search needs
 
 pass-requires : tie.Need-pass-requires
-pass-requires c κs = (record { ready = c .before .before .before .before .before .before .before .before .before .before .before .before .before .pre .0; room = untrue }, c .before .before .before .before .before .before .before .before .before .before .before .before .before .pre .1)
+pass-requires c κs = (record { ready = c .before .before .before .before .before .before .before .before .before .before .before .before .before .pre .0; room = λ l. never l refl }, c .before .before .before .before .before .before .before .before .before .before .before .before .before .pre .1)
 
 enum-known-measured : tie.Need-enum-known-measured
 enum-known-measured c = search needs
@@ -94,7 +89,7 @@ same-length-7 c = c .before .before .before .before .before .before .before .bef
 returns : tie.Need-returns
 returns c =
     let p = c .before .before .before .before .before .before .before .before .before .before .before .before .before in
-    let r = answer-long (older p) (newer p) (out p) _ (passed-past _ _ _ (c .enum-told .given .1) (p .pass .ensures)) in
+    let r = image-long (mergedOf (older p) (newer p)) (out p) _ (passed-past _ _ _ (c .enum-told .given .1) (p .pass .ensures)) in
     (r .0, unchanged p ∙ r .1)
 
 judge-requires : tie.Need-judge-requires
@@ -131,7 +126,7 @@ returns-2 : tie.Need-returns-2
 returns-2 c =
     let j = c .before .before in
     let p = passed j in
-    let r = answer-left (older p) (newer p) (out p) _ _ _ _ (measured j) _ (says j) _ (c .enum-told2 .given .1) in
+    let r = image-left (mergedOf (older p) (newer p)) (out p) _ _ _ _ (measured j) _ (says j) _ (c .enum-told2 .given .1) in
     (r .0, unchanged p ∙ r .1)
 
 lay-image-requires : tie.Need-lay-image-requires
@@ -142,7 +137,7 @@ lay-image-requires c κs =
     let lent = start p .pre .1 in
     rw (unchanged p) (
       start p .pre .0,
-      image-fits (older p) (newer p) (out p) _ _ _ _ (measured j) _ (says j) _ (c .before .before .before .before .before .before .before .before .answer .given .1),
+      image-fits (mergedOf (older p) (newer p)) (out p) _ _ _ _ (measured j) _ (says j) _ (c .before .before .before .before .before .before .before .before .answer .given .1),
       record {
         older-times = omega (arith, kept .1 .0, lent .older-times);
         older-values = omega (arith, kept .1 .1 .0, lent .older-values);
@@ -178,7 +173,7 @@ returns-3 : tie.Need-returns-3
 returns-3 c =
     let j = c .before .before .before .before .before .before .before .before .before .before .before .before .before .before .before .before .before .before .before .before .before .before in
     let p = passed j in
-    answer-laid (older p) (newer p) (out p) _ _ _ _ (measured j) _ (says j) _ (c .before .before .before .before .before .before .before .before .before .before .before .before .before .before .before .before .before .before .before .before .answer .given .1) _ (rw (unchanged p) at (c .before .before .before .before .before .before .before .before .before .before .before .lay-image .ensures))
+    image-written (mergedOf (older p) (newer p)) (out p) _ _ _ _ (measured j) _ (says j) _ (c .before .before .before .before .before .before .before .before .before .before .before .before .before .before .before .before .before .before .before .before .answer .given .1) _ (rw (unchanged p) at (c .before .before .before .before .before .before .before .before .before .before .before .lay-image .ensures))
 
 pub merge-lent-spec : {M : Type 1} → statement M
 merge-lent-spec =

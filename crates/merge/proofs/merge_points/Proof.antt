@@ -1,7 +1,7 @@
 -- `merge_points` meets its contract: the points to come and the fill come to what the key came to at first.
 use borrow.Author.Needs.{needs}
 use Prim.Native.Nat.{ℕ}
-use mathlib.Core.Path.{_≡_, refl, sym, ap, subst, _∙_}
+use mathlib.Core.Path.{_≡_, refl, sym, subst, _∙_}
 use mathlib.Core.Bool.{Bool}
 use mathlib.Core.List.{List}
 use native.Mathlib.Omega.{arith}
@@ -10,15 +10,13 @@ use lib.ListN.{length}
 use mir.Syntax.{w64}
 use mir.Val.{toZ, ofZ}
 use Rattle.format.specs.Meaning.{Point}
-use Rattle.block_writer.specs.Filled.{filled}
-use Rattle.builder.specs.Steps.{fuller, pushPlaces, pushBytes, pushFill}
 use Rattle.builder.specs.Passes.{Near}
 use Rattle.writer.specs.Adding.{closedKey}
-use Rattle.writer.proofs.Judges.{past-both, past-neither}
+use Rattle.writer.proofs.Judges.{past-both, past-near}
 use Rattle.merge.specs.declared.Front.{Front}
 use Rattle.merge.specs.declared.Picked.{Picked}
 use Rattle.merge.specs.Fronts.{PickedAs}
-use Rattle.merge.proofs.Picks.{stored}
+use Rattle.numbers.proofs.TwosComplement.{signed-pattern}
 use Rattle.merge.proofs.Points.{Merging, frontsMerged, front-self, merging-starts, merging-past-all, merging-all, merging-past, merging-ends, merging-fits, merging-less, merging-goes-on}
 use Rattle.merge.proofs.merge_points.Statement.{statement}
 use Rattle.merge.proofs.merge_points.Tie as tie
@@ -83,33 +81,13 @@ module _ (c : tie.After-known-told Inv-loop μ-loop) where
   second = c .before .picked .given .0 .1 .1 .1 .0
 
   time-is : toZ w64 (ofZ w64 time) ≡ time
-  time-is = stored time (omega (arith, c .known-told .given))
+  time-is = signed-pattern time (omega (arith, c .known-told .given))
 
   point : PickedAs (here .loop .first) (here .loop .second) (Picked.Point time pattern first second)
   point = subst (PickedAs (here .loop .first) (here .loop .second)) (c .before .picked .given .1) (c .before .before .before .pick .ensures)
 
   near : Near (here .loop .places .block) (here .loop .places .entry)
-  near =
-      let s = here .loop .places in
-      let within = past-neither (s .block) (s .entry) (sym (c .before .before .before .before .before .past .ensures) ∙ c .before .before .before .before .if1 .left) in
-      record { block-near = omega (arith, within .0); entry-near = omega (arith, within .1) }
-
--- it is added
-module _ (c : tie.After-push Inv-loop μ-loop) where
-  abbrev read : tie.After-known-told Inv-loop μ-loop
-  read = c .before .before .before .before
-
-  abbrev fill : ℤ → List Point
-  fill z = let l = here read .loop in fuller (l .places .filled) (l .times) (l .values) z (pattern read)
-
-  places-are : c .push .result ≡ pushPlaces (start (settled read) .args .kind) (fill (time read)) (here read .loop .places)
-  places-are = c .push .ensures .0 ∙ ap (λ (z : ℤ). pushPlaces (start (settled read) .args .kind) (fill z) (here read .loop .places)) (time-is read)
-
-  bytes-are : c .push .last .0 ≡ pushBytes (start (settled read) .args .laying) (start (settled read) .args .kind) (fill (time read)) (here read .loop .places) (here read .loop .out)
-  bytes-are = c .push .ensures .1 .0 ∙ ap (λ (z : ℤ). pushBytes (start (settled read) .args .laying) (start (settled read) .args .kind) (fill z) (here read .loop .places) (here read .loop .out)) (time-is read)
-
-  fill-is : filled (c .push .result .filled) (c .push .last .1 .1 .1 .0) (c .push .last .1 .1 .1 .1 .0) ≡ pushFill (fill (time read))
-  fill-is = c .push .ensures .1 .1 ∙ ap (λ (z : ℤ). pushFill (fill z)) (time-is read)
+  near = past-near _ _ (sym (c .before .before .before .before .before .past .ensures) ∙ c .before .before .before .before .if1 .left)
 
 settle-requires : tie.Need-settle-requires Inv-loop μ-loop
 settle-requires c κs = c .before .before .before .before .before .before .before .before .pre .older-ready
@@ -212,19 +190,21 @@ advance-requires-2 c κs =
 loop-less : tie.Need-loop-less Inv-loop μ-loop
 loop-less c =
     let b = c .before .before .before .before .before .before .before .before .before .before .before .before .before .before .before .before .before in
-    let k = read b in
+    let k = b .before .before .before .before in
+    let pushed = rw (time-is k) at (b .push .ensures) in
     omega (
       arith,
-      merging-less (here k .loop .inv .0) (time k) (pattern k) (first k) (second k) (point k) _ _ _ _ (places-are b) (bytes-are b) (fill-is b)
+      merging-less (here k .loop .inv .0) (time k) (pattern k) (first k) (second k) (point k) _ _ _ _ (pushed .0) (pushed .1 .0) (pushed .1 .1)
           _ _ _ (c .before .before .before .before .before .before .before .before .before .advance .ensures) _ _ _ (c .before .before .before .advance2 .ensures),
     )
 
 loop-again : tie.Need-loop-again Inv-loop μ-loop
 loop-again c =
     let b = c .before .before .before .before .before .before .before .before .before .before .before .before .before .before .before .before .before in
-    let k = read b in
-    let l = here k .loop in (
-      merging-goes-on (l .inv .0) (time k) (pattern k) (first k) (second k) (point k) _ _ _ _ (places-are b) (bytes-are b) (fill-is b)
+    let k = b .before .before .before .before in
+    let l = here k .loop in
+    let pushed = rw (time-is k) at (b .push .ensures) in (
+      merging-goes-on (l .inv .0) (time k) (pattern k) (first k) (second k) (point k) _ _ _ _ (pushed .0) (pushed .1 .0) (pushed .1 .1)
           _ _ _ (c .before .before .before .before .before .before .before .before .before .advance .ensures) _ _ _ (c .before .before .before .advance2 .ensures) (near k) (b .push .kept .1 .1 .1 .0) (b .push .kept .1 .1 .1 .1 .0),
       c .before .before .before .before .before .before .before .before .before .advance .kept .1 .1 .1 .0 ∙ l .inv .1,
       c .before .before .before .before .before .before .before .before .before .advance .kept .1 .1 .1 .1 .0 ∙ l .inv .2,

@@ -9,7 +9,8 @@ use lib.ListN.{length}
 use Rattle.format.specs.Limits.{imageMost}
 use Rattle.feed.specs.declared.NextPoint.{NextPoint}
 use Rattle.feed.specs.Feeds.{pointsLeft, seriesLeft, Stands, OnPoint}
-use Rattle.merge.proofs.Picks.{stored, front-point, front-end}
+use Rattle.numbers.proofs.TwosComplement.{signed-pattern}
+use Rattle.merge.proofs.Picks.{front-point, front-end}
 use Rattle.merge.proofs.settle.Statement.{statement}
 use Rattle.merge.proofs.settle.Tie as tie
 
@@ -75,7 +76,7 @@ returns c =
     let a = start d .args in
     let l = here d .loop in
     let g = c .before .before .time .given in
-    rw (stored (g .0 .0) (omega (arith, c .before .known-told .given)))
+    rw (signed-pattern (g .0 .0) (omega (arith, c .before .known-told .given)))
     (front-point (a .image .now) (a .from) (l .on) (l .inv .1) _ (l .times) (l .values) (l .inv .2) (newTimes d) (newValues d) (g .0 .0) (g .0 .1 .0) _ (says d _ (g .1)))
 
 enum-known-next : tie.Need-enum-known-next Inv-loop μ-loop
