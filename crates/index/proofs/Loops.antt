@@ -14,7 +14,8 @@ use Rattle.format.specs.Refusals.{ok, refused}
 use Rattle.index.specs.declared.Cursor.{Cursor}
 use Rattle.index.specs.declared.Step.{Step}
 use Rattle.index.specs.Cursors.{stepAt, firstCursor, rest, Sound}
-use Rattle.index.proofs.Walks.{Remaining, beforeKey, beforeEntry, first-sound}
+use Rattle.index.proofs.Walks.{Remaining, beforeKey, beforeEntry}
+use Rattle.index.proofs.Sounds.{first-sound}
 use Rattle.index.proofs.Steps.{OnKey, on-key, OnEntry, on-entry, at-end, at-refusal}
 
 -- the loop stands at c, and makes `decide` of what is left
