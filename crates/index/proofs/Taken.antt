@@ -11,6 +11,7 @@ use lib.ListN.{length, drop}
 use Rattle.format.specs.declared.Entry.{Entry}
 use Rattle.format.specs.Refusals.{Result, ok, refused, _>>=_}
 use Rattle.format.specs.Index.{blockSpan, IndexKey, checkEntry, readEntries, readKeys}
+use Rattle.format.proofs.Results.{refused-not, ok-path}
 use Rattle.index.specs.declared.Cursor.{Cursor}
 use Rattle.index.specs.declared.Step.{Step}
 use Rattle.index.specs.Cursors.{keyAt, maxOf, entryCheckOf, past, taken, entryAt, takenAt, stepAt, restFrom, rest, Sound}
@@ -18,13 +19,10 @@ use Rattle.index.proofs.Rests.{keysOnly}
 use Rattle.index.proofs.Walks.{step-take}
 use Rattle.index.proofs.Steps.{good-entry, never-refused}
 
-ok-is : {A : Type 0} (a b : A) → ok a ≡ ok b → a ≡ b
-ok-is a b e = cc
-
 module _ (index : List ℕ) (x : ℕ) (c : Cursor) (s : Sound index x c) (es : List Entry) (ks : List IndexKey) (good : rest index x c ≡ ok (es, ks)) where
   keys-by : (r : Result (List IndexKey)) → (r >>= keysOnly) ≡ ok (es, ks) → es ≡ []
-  keys-by (ok keys) e = ap (λ (p : List Entry × List IndexKey). p .0) (sym (ok-is ([], keys) (es, ks) e))
-  keys-by (refused r place) e = let z : _≡_ {A = ℕ} 0 1 = cc in absurd (omega arith)
+  keys-by (ok keys) e = ap (λ (p : List Entry × List IndexKey). p .0) (sym (ok-path e))
+  keys-by (refused r place) e = refused-not e
 
   left-by : (l : ℕ) → l ≡ 0
       → restFrom (c .kind) x l (x + c .at .0) (c .ended .0) (maxOf (c .before)) (keyAt index (c .key)) (drop (c .at .0) index) ≡ ok (es, ks) → es ≡ []
