@@ -99,6 +99,7 @@ fn quick() {
 /// Sees that both implementations answer the same in every case, and gives the stack that each act
 /// uses at the most.
 fn compared(cases: &[Case], lent: &mut Lent) -> BTreeMap<&'static str, Stack> {
+    stack::tells_known_use();
     let mut stacks: BTreeMap<_, Stack> = BTreeMap::new();
     for case in cases {
         case.compare();
