@@ -46,6 +46,7 @@ fn main() {
 
 /// All tables.
 fn measured(plot: Option<&str>) -> String {
+    let commit = report::commit();
     let inputs = inputs::Inputs::new();
     let cases = cases::all(&inputs);
     let mut lent = Lent::enough_for(&cases);
@@ -62,6 +63,7 @@ fn measured(plot: Option<&str>) -> String {
     }
     eprintln!("instructions");
     report::tables(&Measured {
+        commit,
         cases: &cases,
         times,
         instructions: instructions::count(&cases),

@@ -49,6 +49,7 @@ const PEERS: [Peer; 14] = [
 
 /// What was measured, in the order of the cases.
 pub struct Measured<'a> {
+    pub commit: String,
     pub cases: &'a [Case<'a>],
     pub times: Vec<Times>,
     /// None where there is no valgrind.
@@ -66,13 +67,14 @@ pub fn tables(measured: &Measured) -> String {
 
 fn write_tables(out: &mut String, measured: &Measured) -> std::fmt::Result {
     let Measured {
+        commit,
         cases,
         times,
         instructions,
         stacks,
         curves,
     } = measured;
-    let (commit, processor, compiler) = (commit(), processor(), compiler());
+    let (processor, compiler) = (processor(), compiler());
     writeln!(out, "Commit {commit}; {processor}; {compiler}.\n")?;
 
     writeln!(out, "### Each act\n")?;
@@ -246,7 +248,7 @@ fn write_curve(out: &mut String, curve: &Curve) -> std::fmt::Result {
 }
 
 /// The commit that is measured, with a plus where files differ from it.
-fn commit() -> String {
+pub fn commit() -> String {
     let git = |arguments: &[&str]| {
         let output = Command::new("git").args(arguments).output().ok()?;
         let text = String::from_utf8(output.stdout).ok()?;
