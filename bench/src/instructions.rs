@@ -13,6 +13,11 @@ use crate::cases::{Case, Lent};
 /// The argument under which the program only runs what is to be counted.
 pub const ARGUMENT: &str = "--counted";
 
+/// Clearing and copying by ordinary stores: callgrind would count a repeated string instruction once
+/// for each byte.
+const TUNABLES: &str =
+    "glibc.cpu.x86_rep_stosb_threshold=1073741824:glibc.cpu.x86_rep_movsb_threshold=1073741824";
+
 /// Instructions of all calls of a case.
 #[derive(Clone, Copy)]
 pub struct Instructions {
@@ -65,6 +70,7 @@ fn counts_in(folder: &Path, calls: usize) -> Option<Vec<f64>> {
         ))
         .arg(env::current_exe().expect("the program has a path"))
         .arg(ARGUMENT)
+        .env("GLIBC_TUNABLES", TUNABLES)
         .status();
     if !status.is_ok_and(|status| status.success()) {
         return None;

@@ -46,6 +46,7 @@ fn main() {
 
 /// All tables.
 fn measured(plot: Option<&str>) -> String {
+    let commit = report::commit();
     let inputs = inputs::Inputs::new();
     let cases = cases::all(&inputs);
     let mut lent = Lent::enough_for(&cases);
@@ -62,6 +63,7 @@ fn measured(plot: Option<&str>) -> String {
     }
     eprintln!("instructions");
     report::tables(&Measured {
+        commit,
         cases: &cases,
         times,
         instructions: instructions::count(&cases),
@@ -99,6 +101,7 @@ fn quick() {
 /// Sees that both implementations answer the same in every case, and gives the stack that each act
 /// uses at the most.
 fn compared(cases: &[Case], lent: &mut Lent) -> BTreeMap<&'static str, Stack> {
+    stack::tells_known_use();
     let mut stacks: BTreeMap<_, Stack> = BTreeMap::new();
     for case in cases {
         case.compare();

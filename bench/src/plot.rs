@@ -69,7 +69,7 @@ fn panel(out: &mut String, curve: &Curve) {
             y(cost) + 4.0,
             "end",
             "black",
-            &format!("{cost:.4}"),
+            &format!("{cost}"),
         );
     }
     // The largest that fits stands near a power of two, without a label of its own.

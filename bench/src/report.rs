@@ -49,6 +49,7 @@ const PEERS: [Peer; 14] = [
 
 /// What was measured, in the order of the cases.
 pub struct Measured<'a> {
+    pub commit: String,
     pub cases: &'a [Case<'a>],
     pub times: Vec<Times>,
     /// None where there is no valgrind.
@@ -66,13 +67,14 @@ pub fn tables(measured: &Measured) -> String {
 
 fn write_tables(out: &mut String, measured: &Measured) -> std::fmt::Result {
     let Measured {
+        commit,
         cases,
         times,
         instructions,
         stacks,
         curves,
     } = measured;
-    let (commit, processor, compiler) = (commit(), processor(), compiler());
+    let (processor, compiler) = (processor(), compiler());
     writeln!(out, "Commit {commit}; {processor}; {compiler}.\n")?;
 
     writeln!(out, "### Each act\n")?;
@@ -126,26 +128,33 @@ fn write_acts(
         write_case(out, case, times, instructions.map(|counts| counts[rank]))?;
     }
     writeln!(out)?;
-    let slower: Vec<_> = cases
-        .iter()
-        .zip(times)
-        .filter(|(_, times)| times.ratio().least > 1.0)
-        .map(|(case, times)| {
-            format!(
-                "{} of {} ({:.2})",
-                case.act(),
-                case.input,
-                times.ratio().least
-            )
-        })
-        .collect();
-    match slower.is_empty() {
-        true => writeln!(
+    write_slower(out, cases, times)
+}
+
+/// Says in which acts the library is slower, and how much in the best and the worst case.
+fn write_slower(out: &mut String, cases: &[Case], times: &[Times]) -> std::fmt::Result {
+    let mut slower: BTreeMap<_, Vec<f64>> = BTreeMap::new();
+    for (case, times) in cases.iter().zip(times) {
+        let ratio = times.ratio().least;
+        if ratio > 1.0 {
+            slower.entry(case.act()).or_default().push(ratio);
+        }
+    }
+    if slower.is_empty() {
+        return writeln!(
             out,
             "No act is slower than ordinary Rust on any of these inputs.\n"
-        ),
-        false => writeln!(out, "Slower than ordinary Rust: {}.\n", slower.join("; ")),
+        );
     }
+    let of_act = |(act, ratios): (&&str, &Vec<f64>)| {
+        let all = cases.iter().filter(|case| case.act() == *act).count();
+        let least = ratios.iter().copied().fold(f64::INFINITY, f64::min);
+        let greatest = ratios.iter().copied().fold(0.0, f64::max);
+        let count = ratios.len();
+        format!("{act} in {count} of {all} cases ({least:.2} to {greatest:.2})")
+    };
+    let acts: Vec<_> = slower.iter().map(of_act).collect();
+    writeln!(out, "Slower than ordinary Rust: {}.\n", acts.join("; "))
 }
 
 fn write_case(
@@ -239,7 +248,7 @@ fn write_curve(out: &mut String, curve: &Curve) -> std::fmt::Result {
 }
 
 /// The commit that is measured, with a plus where files differ from it.
-fn commit() -> String {
+pub fn commit() -> String {
     let git = |arguments: &[&str]| {
         let output = Command::new("git").args(arguments).output().ok()?;
         let text = String::from_utf8(output.stdout).ok()?;

@@ -10,18 +10,36 @@ const PAINTED: usize = 512 * 1024;
 /// Bytes below the painter's local that it may still use itself.
 const OWN: usize = 256;
 
-/// Bytes of stack that `act` uses, less than `OWN` of them by the caller.
+/// Bytes of stack that `act` uses, and some tens more.
 pub fn used(act: impl FnOnce() + Send) -> usize {
     thread::scope(|scope| {
         let builder = thread::Builder::new().stack_size(2 * PAINTED);
         let thread = builder.spawn_scoped(scope, || {
             let top = paint();
-            act();
+            below(act);
             unpainted(top)
         });
         let used = thread.expect("a thread starts").join();
         used.expect("the act comes back")
     })
+}
+
+/// Runs the act in a frame of its own, below the paint's beginning.
+#[inline(never)]
+fn below(act: impl FnOnce()) {
+    act();
+}
+
+/// Sees that a use of known size is told.
+pub fn tells_known_use() {
+    const KNOWN: usize = 20_000;
+    let told = used(|| {
+        black_box(&mut [0u8; KNOWN]);
+    });
+    assert!(
+        (KNOWN..KNOWN + 2 * OWN).contains(&told),
+        "{told} bytes of stack are told where {KNOWN} are used"
+    );
 }
 
 /// Paints the stack below its frame, and answers where the paint begins.

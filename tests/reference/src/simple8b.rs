@@ -195,6 +195,26 @@ mod tests {
     }
 
     #[test]
+    fn the_lowest_plan_is_the_first_that_takes_the_numbers() {
+        let mut state = 1u64;
+        let mut below = |limit: u64| {
+            state = state.wrapping_mul(0x5851_f42d_4c95_7f2d).wrapping_add(1);
+            (state >> 33) % limit
+        };
+        for _ in 0..20_000 {
+            let (count, bits) = (1 + below(300), below(61));
+            let often_one = below(4) == 0;
+            let mut number = || match often_one && below(200) > 0 {
+                true => 1,
+                false => below(1 << 31) << 29 >> (60 - bits),
+            };
+            let numbers: Vec<u64> = (0..count).map(|_| number()).collect();
+            let first = (0..PLANS.len()).find(|&plan| PLANS[plan].takes(&numbers));
+            assert_eq!(Some(lowest_plan(&numbers)), first);
+        }
+    }
+
+    #[test]
     fn unused_bits_and_half_words_are_refused() {
         let mut numbers = [0; 240];
         let mut set = |word: u64| unpack(&word.to_be_bytes(), &mut numbers);
