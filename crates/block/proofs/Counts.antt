@@ -27,7 +27,8 @@ use Rattle.block.specs.declared.BlockPoints.{BlockPoints}
 use Rattle.block.specs.declared.BlockPoints.the-variants.{Count}
 use Rattle.block.specs.Answers.{blockAnswer}
 use Rattle.block.specs.Parts.{readParts}
-use Rattle.block.proofs.Sections.{times-at, readValues-count}
+use Rattle.booleans.proofs.Values.{values-count}
+use Rattle.block.proofs.Sections.{times-at}
 use Rattle.block.proofs.Bodies.{Good, sections-broken, sections-empty, sections-long, sections-parts}
 
 unshifted : (d : ℕ) (a : Result (List ℤ)) (ts : List ℤ) → shifted d a ≡ ok ts → a ≡ ok ts
@@ -46,7 +47,7 @@ parts-times-of kind offset next split s ps e =
     let part = take (split - next) (drop next s) in
     let a = bind-ok (readTimes (next + offset) part) _ ps e in
     let b = bind-ok (readValues kind (length (a .0)) (split + offset) (drop split s)) _ ps (a .2) in
-    let many = points-length (a .0) (b .0) (readValues-count kind (length (a .0)) (split + offset) (drop split s) (b .0) (b .1)) in
+    let many = points-length (a .0) (b .0) (values-count kind (length (a .0)) (split + offset) (drop split s) (b .0) (b .1)) in
     record {
       times = a .0;
       read = unshifted (next + offset) (readTimes 0 part) (a .0) (sym (times-at (next + offset) part) ∙ a .1);
