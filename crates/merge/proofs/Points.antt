@@ -59,8 +59,8 @@ module _ {older : List ℕ} {f : Feed} {newer : List ℕ} {g : Feed} {laying : B
     {s : Places} {times : List ℤ} {values out : List ℕ} where
   module _ {olderTimes : List ℤ} {olderValues : List ℕ} {newerTimes : List ℤ} {newerValues : List ℕ}
       (h : PointsReady older f olderTimes olderValues newer g newerTimes newerValues laying kind s times values out)
-      (o : Front) (ot : List ℤ) (ov : List ℕ) (p : FrontHas older f (pointsLeft older f olderTimes olderValues) o ot ov)
-      (n : Front) (nt : List ℤ) (nv : List ℕ) (q : FrontHas newer g (pointsLeft newer g newerTimes newerValues) n nt nv) where
+      {o : Front} {ot : List ℤ} {ov : List ℕ} (p : FrontHas older f (pointsLeft older f olderTimes olderValues) o ot ov)
+      {n : Front} {nt : List ℤ} {nv : List ℕ} (q : FrontHas newer g (pointsLeft newer g newerTimes newerValues) n nt nv) where
     pub merging-starts : Merging older (o .feed) newer (n .feed) laying kind (closedKey laying kind (frontsMerged older o ot ov newer n nt nv) s times values out) o ot ov n nt nv s times values out
     merging-starts = record {
       older-at = front-self older f o (p .place);
@@ -78,10 +78,10 @@ module _ {older : List ℕ} {f : Feed} {newer : List ℕ} {g : Feed} {laying : B
         → Past (closedKey laying kind (mergedPoints older f olderTimes olderValues newer g newerTimes newerValues) s times values out)
     merging-past-all past = subst Past whole-is past
 
-    pub merging-all : (s′ : Places) (x y : Feed) (times′ : List ℤ) (values′ out′ : List ℕ)
+    pub merging-all : {s′ : Places} {x y : Feed} {times′ : List ℤ} {values′ out′ : List ℕ}
         → AllAdded older (o .feed) newer (n .feed) laying kind (closedKey laying kind (frontsMerged older o ot ov newer n nt nv) s times values out) s′ x y times′ values′ out′
         → AllAdded older f newer g laying kind (closedKey laying kind (mergedPoints older f olderTimes olderValues newer g newerTimes newerValues) s times values out) s′ x y times′ values′ out′
-    merging-all s′ x y times′ values′ out′ d = record {
+    merging-all d = record {
       older-done = record { stands = d .older-done .stands; done = d .older-done .done; series = d .older-done .series ∙ p .place .series };
       newer-done = record { stands = d .newer-done .stands; done = d .newer-done .done; series = d .newer-done .series ∙ q .place .series };
       filling = d .filling;
@@ -124,8 +124,8 @@ module _ {older : List ℕ} {f : Feed} {newer : List ℕ} {g : Feed} {laying : B
           (places : s′ ≡ pushPlaces kind (fuller (s .filled) times values t v) s)
           (laid : out′ ≡ pushBytes laying kind (fuller (s .filled) times values t v) s out)
           (fill : filled (s′ .filled) times′ values′ ≡ pushFill (fuller (s .filled) times values t v))
-          (o′ : Front) (ot : List ℤ) (ov : List ℕ) (p : FrontHas older (o .feed) (leftOf a o (pointsLeft older (o .feed) olderTimes olderValues)) o′ ot ov)
-          (n′ : Front) (nt : List ℤ) (nv : List ℕ) (q : FrontHas newer (n .feed) (leftOf b n (pointsLeft newer (n .feed) newerTimes newerValues)) n′ nt nv) where
+          {o′ : Front} {ot : List ℤ} {ov : List ℕ} (p : FrontHas older (o .feed) (leftOf a o (pointsLeft older (o .feed) olderTimes olderValues)) o′ ot ov)
+          {n′ : Front} {nt : List ℤ} {nv : List ℕ} (q : FrontHas newer (n .feed) (leftOf b n (pointsLeft newer (n .feed) newerTimes newerValues)) n′ nt nv) where
         left-is : frontsMerged older o′ ot ov newer n′ nt nv ≡ left
         left-is = rw (p .points, q .points) refl
 

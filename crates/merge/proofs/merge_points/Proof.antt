@@ -3,7 +3,6 @@ use borrow.Author.Needs.{needs}
 use Prim.Native.Nat.{ℕ}
 use mathlib.Core.Path.{_≡_, refl, sym, subst, _∙_}
 use mathlib.Core.Bool.{Bool}
-use mathlib.Core.List.{List}
 use native.Mathlib.Omega.{arith}
 use lib.IntN.{ℤ}
 use lib.ListN.{length}
@@ -13,7 +12,6 @@ use Rattle.format.specs.Meaning.{Point}
 use Rattle.builder.specs.Passes.{Near}
 use Rattle.writer.specs.Adding.{closedKey}
 use Rattle.writer.proofs.Judges.{past-both, past-near}
-use Rattle.merge.specs.declared.Front.{Front}
 use Rattle.merge.specs.declared.Picked.{Picked}
 use Rattle.merge.specs.Fronts.{PickedAs}
 use Rattle.numbers.proofs.TwosComplement.{signed-pattern}
@@ -33,38 +31,11 @@ abbrev μ-loop : tie.MeasureT-loop
     length (frontsMerged older first ot ov newer second nt nv)
 
 -- the fronts are settled
-module _ (c : tie.After-slice-known6 Inv-loop μ-loop) where
-  abbrev start : tie.Start Inv-loop μ-loop
-  start = c .before .before .before .before .before .before .before .before .before .before .before .before .before .before .before .before .before .before
-
-  abbrev o : Front
-  o = c .before .before .before .before .before .before .before .before .before .settle .result
-
-  abbrev ot : List ℤ
-  ot = c .before .before .before .before .before .before .before .before .before .settle .last .1 .1 .0
-
-  abbrev ov : List ℕ
-  ov = c .before .before .before .before .before .before .before .before .before .settle .last .1 .1 .1 .0
-
-  abbrev n : Front
-  n = c .before .before .before .settle2 .result
-
-  abbrev nt : List ℤ
-  nt = c .before .before .before .settle2 .last .1 .1 .0
-
-  abbrev nv : List ℕ
-  nv = c .before .before .before .settle2 .last .1 .1 .1 .0
-
-  begins : Merging (start .args .older .now) (o .feed) (start .args .newer .now) (n .feed) (start .args .laying) (start .args .kind)
-      (closedKey (start .args .laying) (start .args .kind) (frontsMerged (start .args .older .now) o ot ov (start .args .newer .now) n nt nv) (start .args .opened) (start .args .times .now) (start .args .values .now) (start .args .out .now))
-      o ot ov n nt nv (start .args .opened) (start .args .times .now) (start .args .values .now) (start .args .out .now)
-  begins = merging-starts (start .pre) o ot ov (c .before .before .before .before .before .before .before .before .before .settle .ensures) n nt nv (c .before .before .before .settle2 .ensures)
+abbrev start : tie.After-slice-known6 Inv-loop μ-loop → tie.Start Inv-loop μ-loop
+start c = c .before .before .before .before .before .before .before .before .before .before .before .before .before .before .before .before .before .before
 
 -- a point was picked
 module _ (c : tie.After-known-told Inv-loop μ-loop) where
-  abbrev settled : tie.After-slice-known6 Inv-loop μ-loop
-  settled = c .before .before .before .before .before .before .before
-
   abbrev here : tie.At-loop Inv-loop μ-loop
   here = c .before .before .before .before .before .before
 
@@ -96,7 +67,8 @@ settle-requires-2 : tie.Need-settle-requires-2 Inv-loop μ-loop
 settle-requires-2 c κs = c .before .before .before .before .before .before .before .before .before .before .before .before .before .before .pre .newer-ready
 
 loop-holds : tie.Need-loop-holds Inv-loop μ-loop
-loop-holds c = (begins c, refl, refl, refl, refl, refl, refl, refl)
+loop-holds c =
+    (merging-starts (start c .pre) (c .before .before .before .before .before .before .before .before .before .settle .ensures) (c .before .before .before .settle2 .ensures), refl, refl, refl, refl, refl, refl, refl)
 
 past-requires : tie.Need-past-requires Inv-loop μ-loop
 past-requires c κs = tt
@@ -127,7 +99,7 @@ returns c =
     let d = c .before .before .before in
     let l = c .before .before .loop in
     let past = past-both (l .places .block) (l .places .entry) (sym (c .before .past .ensures) ∙ c .if1 .taken) in
-    merging-past-all (start d .pre) (o d) (ot d) (ov d) (d .before .before .before .before .before .before .before .before .before .settle .ensures) (n d) (nt d) (nv d) (d .before .before .before .settle2 .ensures) (merging-past (l .inv .0) past)
+    merging-past-all (start d .pre) (d .before .before .before .before .before .before .before .before .before .settle .ensures) (d .before .before .before .settle2 .ensures) (merging-past (l .inv .0) past)
 
 pick-requires : tie.Need-pick-requires Inv-loop μ-loop
 pick-requires c κs = tt
@@ -164,7 +136,7 @@ returns-2 c =
     let d = c .before .before .before .before .before .before .before .before in
     let l = c .before .before .before .before .before .before .before .loop in
     let none = subst (PickedAs (l .first) (l .second)) (c .before .before .enum-told .given .1) (c .before .before .before .before .pick .ensures) in
-    merging-all (start d .pre) (o d) (ot d) (ov d) (d .before .before .before .before .before .before .before .before .before .settle .ensures) (n d) (nt d) (nv d) (d .before .before .before .settle2 .ensures) _ _ _ _ _ _ (merging-ends (l .inv .0) none)
+    merging-all (start d .pre) (d .before .before .before .before .before .before .before .before .before .settle .ensures) (d .before .before .before .settle2 .ensures) (merging-ends (l .inv .0) none)
 
 push-requires : tie.Need-push-requires Inv-loop μ-loop
 push-requires c κs =
@@ -195,7 +167,7 @@ loop-less c =
     omega (
       arith,
       merging-less (here k .loop .inv .0) (time k) (pattern k) (first k) (second k) (point k) _ _ _ _ (pushed .0) (pushed .1 .0) (pushed .1 .1)
-          _ _ _ (c .before .before .before .before .before .before .before .before .before .advance .ensures) _ _ _ (c .before .before .before .advance2 .ensures),
+          (c .before .before .before .before .before .before .before .before .before .advance .ensures) (c .before .before .before .advance2 .ensures),
     )
 
 loop-again : tie.Need-loop-again Inv-loop μ-loop
@@ -205,7 +177,7 @@ loop-again c =
     let l = here k .loop in
     let pushed = rw (time-is k) at (b .push .ensures) in (
       merging-goes-on (l .inv .0) (time k) (pattern k) (first k) (second k) (point k) _ _ _ _ (pushed .0) (pushed .1 .0) (pushed .1 .1)
-          _ _ _ (c .before .before .before .before .before .before .before .before .before .advance .ensures) _ _ _ (c .before .before .before .advance2 .ensures) (near k) (b .push .kept .1 .1 .1 .0) (b .push .kept .1 .1 .1 .1 .0),
+          (c .before .before .before .before .before .before .before .before .before .advance .ensures) (c .before .before .before .advance2 .ensures) (near k) (b .push .kept .1 .1 .1 .0) (b .push .kept .1 .1 .1 .1 .0),
       c .before .before .before .before .before .before .before .before .before .advance .kept .1 .1 .1 .0 ∙ l .inv .1,
       c .before .before .before .before .before .before .before .before .before .advance .kept .1 .1 .1 .1 .0 ∙ l .inv .2,
       c .before .before .before .advance2 .kept .1 .1 .1 .0 ∙ l .inv .3,

@@ -1,28 +1,14 @@
 -- `skip_entry` meets its contract: a step that takes an entry leads past it.
 use borrow.Author.Needs.{needs}
 use Prim.Native.Nat.{ℕ, zero, suc}
-use mathlib.Core.Path.{_≡_, refl, sym, subst, _∙_}
-use mathlib.Core.Logic.{⊎-elim}
-use mathlib.Core.List.{[], _∷_}
+use mathlib.Core.Path.{_≡_, refl, sym, _∙_}
 use native.Mathlib.Omega.{arith}
-use denote.Enum.Declared.{tagOf}
-use types.Run.{OneOf}
-use Rattle.format.specs.declared.Entry.{Entry}
-use Rattle.index.specs.declared.Cursor.{Cursor}
-use Rattle.index.specs.declared.Step.{Step}
-use Rattle.index.proofs.Step.{the-type}
 use Rattle.feed.proofs.Standing.{starts}
-use Rattle.feed.proofs.Blocks.{block-step}
+use Rattle.feed.proofs.Blocks.{entry-tag, block-step}
 use Rattle.merge.specs.Turns.{EntrySkipped}
 use Rattle.merge.proofs.Skips.{entry-skipped, none-skipped}
 use Rattle.merge.proofs.skip_entry.Statement.{statement}
 use Rattle.merge.proofs.skip_entry.Tie as tie
-
--- a step that takes an entry is no other
-entry-tag : (s : Step) (e : Entry) (d : Cursor) → s ≡ Step.Entry e d → OneOf (0 ∷ 2 ∷ 3 ∷ []) (tagOf the-type s) → ⊥
-entry-tag s e d same k =
-    let at : OneOf (0 ∷ 2 ∷ 3 ∷ []) (tagOf the-type (Step.Entry e d)) = subst (λ (r : Step). OneOf (0 ∷ 2 ∷ 3 ∷ []) (tagOf the-type r)) same k in
-    ⊎-elim (λ z. omega arith) (λ r. ⊎-elim (λ z. omega arith) (λ z. omega arith) r) at
 
 sub-end : tie.Need-sub-end
 sub-end c =
