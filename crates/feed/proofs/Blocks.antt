@@ -1,13 +1,18 @@
 -- The next block of the open key: the step of the cursor takes its entry, and the block is decoded.
+--   entry-tag      a step that takes an entry is no other
 --   no-block       with no entry left, no point is left
 --   block-step     with one left, the step takes it
 --   block-known    the block can be decoded
+--   entry-left, entry-read   the entries after it, and its points and those of the blocks after it
 --   block-opened   the feed at the decoded block
 use Prim.Native.Nat.{ℕ, _+_, _≤_, zero-le}
 use mathlib.Core.Path.{_≡_, refl, ap, sym, subst, _∙_}
+use mathlib.Core.Logic.{⊎-elim}
 use mathlib.Core.Bool.{true}
 use mathlib.Core.List.{List, [], _∷_}
 use native.Mathlib.Omega.{arith}
+use denote.Enum.Declared.{tagOf}
+use types.Run.{OneOf}
 use lib.IntN.{ℤ}
 use lib.ListN.{length}
 use Rattle.format.specs.declared.Entry.{Entry}
@@ -19,6 +24,7 @@ use Rattle.format.specs.File.{blockOf, readBlocks}
 use Rattle.index.specs.declared.Cursor.{Cursor}
 use Rattle.index.specs.declared.Step.{Step}
 use Rattle.index.specs.Cursors.{keyAt, stepAt, entryAt, past, rest}
+use Rattle.index.proofs.Step.{the-type}
 use Rattle.index.proofs.Steps.{on-entry, good-entry}
 use Rattle.index.proofs.Taken.{none-left, good-take, entry-past}
 use Rattle.block.proofs.Answers.{PointsAre}
@@ -30,6 +36,12 @@ use Rattle.feed.specs.Feeds.{keyOf, entriesLeft, keysLeft, blocksLeft, s
 use Rattle.feed.proofs.Readings.{BlocksRead, blocks-read, no-blocks}
 use Rattle.feed.proofs.Standing.{placed, starts}
 use Rattle.feed.proofs.Cells.{held-block}
+
+-- a step that takes an entry is no other
+pub entry-tag : (s : Step) (e : Entry) (d : Cursor) → s ≡ Step.Entry e d → OneOf (0 ∷ 2 ∷ 3 ∷ []) (tagOf the-type s) → ⊥
+entry-tag s e d same k =
+    let at : OneOf (0 ∷ 2 ∷ 3 ∷ []) (tagOf the-type (Step.Entry e d)) = subst (λ (r : Step). OneOf (0 ∷ 2 ∷ 3 ∷ []) (tagOf the-type r)) same k in
+    ⊎-elim (λ z. omega arith) (λ r. ⊎-elim (λ z. omega arith) (λ z. omega arith) r) at
 
 module _ (image : List ℕ) (f : Feed) (s : Stands image f) where
   abbrev index : List ℕ
@@ -59,10 +71,10 @@ module _ (image : List ℕ) (f : Feed) (s : Stands image f) where
       pub within : v .offset .0 + v .size ≤ length image
       pub most : length image ≤ imageMost
 
-    entry-left : (later : List Entry) × (rest index x d ≡ ok (later, ks)) × (es ≡ v ∷ later)
+    pub entry-left : (later : List Entry) × (rest index x d ≡ ok (later, ks)) × (es ≡ v ∷ later)
     entry-left = good-entry index x (f .cursor) (s .sound) es ks (s .index) v d step
 
-    entry-read : BlocksRead image v (entry-left .0) (blocksLeft image f)
+    pub entry-read : BlocksRead image v (entry-left .0) (blocksLeft image f)
     entry-read =
         blocks-read image v (entry-left .0) (blocksLeft image f)
         (subst (λ (l : List Entry). readBlocks image l ≡ ok (blocksLeft image f)) (entry-left .2) (s .blocks))

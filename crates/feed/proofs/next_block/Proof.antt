@@ -2,23 +2,18 @@
 use borrow.Author.Needs.{needs}
 use Prim.Native.Nat.{ℕ}
 use mathlib.Core.Path.{_≡_, refl, ap, sym, subst, _∙_}
-use mathlib.Core.Logic.{⊎-elim}
-use mathlib.Core.List.{List, [], _∷_}
+use mathlib.Core.List.{List}
 use native.Mathlib.Omega.{arith}
-use denote.Enum.Declared.{tagOf}
-use types.Run.{OneOf}
 use Rattle.format.specs.declared.Entry.{Entry}
 use Rattle.format.specs.Block.{readBlock}
 use Rattle.format.specs.File.{blockOf}
-use Rattle.index.specs.declared.Cursor.{Cursor}
 use Rattle.index.specs.declared.Step.{Step}
 use Rattle.index.specs.Cursors.{stepAt, Sound}
-use Rattle.index.proofs.Step.{the-type}
 use Rattle.block.proofs.Answers.{answer-points}
 use Rattle.feed.specs.declared.Feed.{Feed}
 use Rattle.index.specs.Frames.{indexPart}
 use Rattle.feed.proofs.Standing.{starts}
-use Rattle.feed.proofs.Blocks.{no-block, block-step, block-known, block-opened}
+use Rattle.feed.proofs.Blocks.{entry-tag, no-block, block-step, block-known, block-opened}
 use Rattle.feed.proofs.next_block.Statement.{statement}
 use Rattle.feed.proofs.next_block.Tie as tie
 
@@ -33,12 +28,6 @@ module _ (c : tie.After-next) where
   step-is : (s : Step) → c .next .result ≡ s → stepAt (indexPart image (feed .start .0)) (feed .start .0) (feed .cursor) ≡ s
   step-is s e =
       ap (λ (l : List ℕ). stepAt l (feed .start .0) (feed .cursor)) (sym (c .before .index-part .ensures)) ∙ sym (c .next .ensures) ∙ e
-
--- a step that takes an entry is no other
-entry-tag : (s : Step) (e : Entry) (d : Cursor) → s ≡ Step.Entry e d → OneOf (0 ∷ 2 ∷ 3 ∷ []) (tagOf the-type s) → ⊥
-entry-tag s e d same k =
-    let at : OneOf (0 ∷ 2 ∷ 3 ∷ []) (tagOf the-type (Step.Entry e d)) = subst (λ (r : Step). OneOf (0 ∷ 2 ∷ 3 ∷ []) (tagOf the-type r)) same k in
-    ⊎-elim (λ z. omega arith) (λ r. ⊎-elim (λ z. omega arith) (λ z. omega arith) r) at
 
 returns : tie.Need-returns
 returns c =
