@@ -2,7 +2,7 @@
 --   head-known            T is a number
 --   Counted, counted      the timestamps after it: they are read, and there are as many as points
 use Prim.Native.Nat.{ℕ, _+_, _-_, _≤_, _<_}
-use mathlib.Core.Path.{_≡_, refl, sym, ap, _∙_}
+use mathlib.Core.Path.{_≡_, sym, ap, _∙_}
 use mathlib.Core.Bool.{true}
 use mathlib.Core.List.{List}
 use mathlib.Core.Logic.{⊎-elim}
@@ -14,13 +14,12 @@ use Rattle.format.specs.declared.Entry.{Entry}
 use Rattle.format.specs.Refusals.{Result, ok, refused, isOk}
 use Rattle.format.specs.Meaning.{Point}
 use Rattle.format.specs.Timestamps.{readTimes}
-use Rattle.format.specs.Block.{readValues, pointsFrom, readBlock}
+use Rattle.format.specs.Block.{readValues, readBlock}
 use Rattle.format.proofs.Cases.{below-or}
 use Rattle.format.proofs.Results.{shifted, refused-not, ok-path, bind-ok}
 use Rattle.format.proofs.Points.{points-length}
 use Rattle.numbers.specs.declared.Varint.the-variants.{Number, Broken}
 use Rattle.numbers.specs.VarintAt.{varintAt}
-use Rattle.timestamps.specs.declared.TimesRead.{TimesRead}
 use Rattle.timestamps.specs.declared.TimesRead.the-variants as sections
 use Rattle.timestamps.specs.Reading.{timesAnswer}
 use Rattle.block.specs.declared.BlockPoints.{BlockPoints}

@@ -3,6 +3,7 @@
 --   no-block       with no entry left, no point is left
 --   block-step     with one left, the step takes it
 --   block-known    the block can be decoded
+--   entry-left, entry-read   the entries after it, and its points and those of the blocks after it
 --   block-opened   the feed at the decoded block
 use Prim.Native.Nat.{ℕ, _+_, _≤_, zero-le}
 use mathlib.Core.Path.{_≡_, refl, ap, sym, subst, _∙_}
@@ -70,10 +71,10 @@ module _ (image : List ℕ) (f : Feed) (s : Stands image f) where
       pub within : v .offset .0 + v .size ≤ length image
       pub most : length image ≤ imageMost
 
-    entry-left : (later : List Entry) × (rest index x d ≡ ok (later, ks)) × (es ≡ v ∷ later)
+    pub entry-left : (later : List Entry) × (rest index x d ≡ ok (later, ks)) × (es ≡ v ∷ later)
     entry-left = good-entry index x (f .cursor) (s .sound) es ks (s .index) v d step
 
-    entry-read : BlocksRead image v (entry-left .0) (blocksLeft image f)
+    pub entry-read : BlocksRead image v (entry-left .0) (blocksLeft image f)
     entry-read =
         blocks-read image v (entry-left .0) (blocksLeft image f)
         (subst (λ (l : List Entry). readBlocks image l ≡ ok (blocksLeft image f)) (entry-left .2) (s .blocks))

@@ -1,19 +1,17 @@
 -- The decoded block in the cells.
 --   held-none       where no point is left in it, none is held
 --   held-next       the next point, and those after it
---   held-length     how many points are held
 --   held-block      right after decoding, the points of the block are held
 --   points-blocks   where none is held, the points of the key are those of its blocks
 use Prim.Native.Nat.{ℕ, _-_, _≤_, _<_}
-use mathlib.Core.Path.{_≡_, sym, _∙_}
+use mathlib.Core.Path.{_≡_}
 use mathlib.Core.List.{List, [], _∷_}
 use native.Mathlib.Omega.{arith}
 use lib.IntN.{ℤ, pos}
 use lib.ListN.{length, take, drop, getD}
 use Rattle.format.specs.Meaning.{Point, pointOf}
 use Rattle.format.specs.Block.{pointsFrom}
-use Rattle.format.proofs.Parts.{part-next, part-length}
-use Rattle.format.proofs.Points.{points-length}
+use Rattle.format.proofs.Parts.{part-next}
 use Rattle.feed.specs.declared.Feed.{Feed}
 use Rattle.feed.specs.Feeds.{blocksLeft, held, pointsLeft, advanced}
 
@@ -27,13 +25,6 @@ module _ (f : Feed) (times : List ℤ) (values : List ℕ) where
   unfolding held
   held-next h in-times in-values =
       rw (part-next times (pos 0) (f .next) (f .count) h in-times, part-next values 0 (f .next) (f .count) h in-values)
-
-  pub held-length : f .next ≤ f .count → f .count ≤ length times → f .count ≤ length values → length (held f times values) ≡ f .count - f .next
-  unfolding held
-  held-length h in-times in-values =
-      let long = part-length times (f .next) (f .count) in-times in
-      let wide = part-length values (f .next) (f .count) in-values in
-      points-length (take (f .count - f .next) (drop (f .next) times)) (take (f .count - f .next) (drop (f .next) values)) (wide ∙ sym long) ∙ long
 
   pub held-block : (ps : List Point) → f .next ≡ 0 → pointsFrom (take (f .count) times) (take (f .count) values) ≡ ps → held f times values ≡ ps
   unfolding held

@@ -1,38 +1,84 @@
--- Counting the points of a key by decoding its blocks: those counted and those to come make all of them.
---   Counting     n points were counted between the feeds f and g
---   counting-start, counting-on, counting-end   step by step
+-- Counting the points of a key block by block: those counted and those to come make all of them.
+--   Counting     n points were counted between two cursors in the index
+--   counting-start, counting-further, counting-on, counting-end   step by step
 use Prim.Native.Nat.{ℕ, _+_, _*_, _≤_, _<_, zero-le}
 use mathlib.Core.Path.{_≡_, ap, _∙_}
-use mathlib.Core.List.{List, []}
+use mathlib.Core.List.{List}
 use native.Mathlib.Nat.{zero-add}
 use native.Mathlib.Omega.{arith}
-use lib.IntN.{ℤ}
 use lib.ListN.{length, length-append}
-use Rattle.format.specs.Limits.{readBlockMost}
+use Rattle.format.specs.declared.Entry.{Entry}
+use Rattle.format.specs.declared.ImagePlace.{ImagePlace}
+use Rattle.format.specs.Block.{readBlock}
+use Rattle.format.specs.File.{blockOf}
+use Rattle.index.specs.declared.Cursor.{Cursor}
+use Rattle.index.specs.declared.Step.{Step}
+use Rattle.index.specs.Frames.{indexPart}
+use Rattle.index.specs.Cursors.{stepAt}
+use Rattle.index.proofs.Steps.{on-entry}
+use Rattle.block.specs.declared.BlockPoints.{BlockPoints}
+use Rattle.block.specs.Answers.{blockAnswer}
+use Rattle.block.proofs.Bodies.{block-few}
 use Rattle.feed.specs.declared.Feed.{Feed}
-use Rattle.feed.specs.Feeds.{blocksLeft, held, Stands, BlockOpened}
-use Rattle.feed.proofs.Cells.{held-length}
+use Rattle.feed.specs.Feeds.{entriesLeft, keysLeft, blocksLeft, seriesLeft, Stands}
+use Rattle.feed.proofs.Standing.{Left, placed}
+use Rattle.feed.proofs.Keys.{atCursor}
+use Rattle.feed.proofs.Blocks.{no-block, entry-left, entry-read}
 
-pub record Counting (image : List ℕ) (f g : Feed) (n : ℕ) : Type 0 where
-  pub stands : Stands image g
-  pub same : n + length (blocksLeft image g) ≡ length (blocksLeft image f)
-  pub few : n ≤ g .cursor .at .0 * 1000
+pub record Counting (image : List ℕ) (start : ImagePlace) (first c : Cursor) (n : ℕ) : Type 0 where
+  pub stands : Stands image (atCursor start c)
+  pub same : n + length (blocksLeft image (atCursor start c)) ≡ length (blocksLeft image (atCursor start first))
+  pub few : n ≤ c .at .0 * 1000
 
-pub counting-start : (image : List ℕ) (f : Feed) → Stands image f → Counting image f f 0
-counting-start image f s = record { stands = s; same = zero-add (length (blocksLeft image f)); few = zero-le }
+-- the cursor of a feed, by itself
+module _ (image : List ℕ) (f : Feed) (s : Stands image f) where
+  alone : Left image (atCursor (f .start) (f .cursor)) (blocksLeft image f) (seriesLeft image f)
+  alone =
+      placed image (atCursor (f .start) (f .cursor)) (entriesLeft image f) (keysLeft image f) (blocksLeft image f) (seriesLeft image f) (record {
+        frame = s .frame;
+        start = s .start;
+        sound = s .sound;
+        index = s .index;
+        blocks = s .blocks;
+        series = s .series;
+        next-most = zero-le;
+        count-most = zero-le;
+      })
 
-pub counting-on : (image : List ℕ) (f g h : Feed) (n : ℕ) (times : List ℤ) (values : List ℕ) → readBlockMost ≤ length times → readBlockMost ≤ length values
-    → Counting image f g n → BlockOpened image g times values h → Counting image f h (n + h .count)
-counting-on image f g h n times values in-times in-values k b =
-    let most : h .count ≤ 1000 = b .stands .count-most in
-    let from : h .next ≡ 0 = b .from in
-    let size = held-length h times values (b .stands .next-most) (omega arith) (omega arith) in
-    let parts = ap length (b .points) ∙ length-append (held h times values) (blocksLeft image h) in
-    let few : n ≤ g .cursor .at .0 * 1000 = k .few in
-    let further : g .cursor .at .0 < h .cursor .at .0 = b .further in
-    record { stands = b .stands; same = omega (arith, k .same); few = omega arith }
+  pub counting-start : Counting image (f .start) (f .cursor) (f .cursor) 0
+  counting-start =
+      record { stands = alone .stands; same = zero-add (length (blocksLeft image (atCursor (f .start) (f .cursor)))); few = zero-le }
 
-pub counting-end : (image : List ℕ) (f g : Feed) (n : ℕ) → Counting image f g n → blocksLeft image g ≡ [] → n ≡ length (blocksLeft image f)
-counting-end image f g n k e =
-    let none : length (blocksLeft image g) ≡ 0 = ap length e in
-    omega (arith, k .same)
+  pub counting-end : (c : Cursor) (n : ℕ) → Counting image (f .start) (f .cursor) c n → c .left ≡ 0 → n ≡ length (blocksLeft image f)
+  counting-end c n k e =
+      let none = ap length (no-block image (atCursor (f .start) c) (k .stands) e) in
+      omega (arith, none, k .same, ap length (alone .blocks))
+
+module _ (image : List ℕ) (start : ImagePlace) (first c : Cursor) (n : ℕ) (k : Counting image start first c n) where
+  module _ (v : Entry) (d : Cursor) (step : stepAt (indexPart image (start .0)) (start .0) c ≡ Step.Entry v d) where
+    pub counting-further : c .at .0 < d .at .0
+    counting-further = on-entry (indexPart image (start .0)) (start .0) c (k .stands .sound) v d step .further
+
+    pub counting-on : (m : ℕ) → BlockPoints.Count m ≡ blockAnswer (readBlock v (blockOf image v)) → Counting image start first d (n + m)
+    counting-on m e =
+        let f = atCursor start c in
+        let s = k .stands in
+        let entry = entry-left image f s v d step in
+        let read = entry-read image f s v d step in
+        let left = placed image (atCursor start d) (entry .0) (keysLeft image f) (read .later) (seriesLeft image f) (record {
+          frame = s .frame;
+          start = s .start;
+          sound = on-entry (indexPart image (start .0)) (start .0) c (s .sound) v d step .sound;
+          index = entry .1;
+          blocks = read .blocks;
+          series = s .series;
+          next-most = zero-le;
+          count-most = zero-le;
+        }) in
+        let is : BlockPoints.Count m ≡ BlockPoints.Count (length (read .first)) = e ∙ ap blockAnswer (read .block) in
+        let many : m ≡ length (read .first) = cc in
+        let most : length (read .first) ≤ 1000 = block-few v (blockOf image v) (read .first) (read .block) .few in
+        let further : c .at .0 < d .at .0 = counting-further in
+        let few : n ≤ c .at .0 * 1000 = k .few in
+        let parts = ap length (read .points) ∙ length-append (read .first) (read .later) in
+        record { stands = left .stands; same = omega (arith, k .same, parts, ap length (left .blocks)); few = omega arith }

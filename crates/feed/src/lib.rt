@@ -153,24 +153,34 @@ fn next_block(image: &[u8], feed: Feed, times: &mut [i64], values: &mut [u64]) -
     })
 }
 
-// The number of points of the open key, of which no block is decoded yet. It decodes them all; the feed stays.
-pub fn count_points(image: &[u8], feed: Feed, times: &mut [i64], values: &mut [u64]) -> usize
-    requires { ⌜ Stands (now image) feed × (readBlockMost ≤ length (now times)) × (readBlockMost ≤ length (now values)) ⌝ }
+// The number of points of an entry's block, which is known to be good.
+fn count_block(image: &[u8], entry: Entry) -> usize
+    requires { ⌜ (isOk (readBlock entry (blockOf (now image) entry)) ≡ true) × (entry .offset .0 + entry .size ≤ length (now image)) ⌝ }
+    ensures { λ r. ⌜ BlockPoints.Count r ≡ blockAnswer (readBlock entry (blockOf (now (image .entry)) entry)) ⌝ }
+{
+    let offset = entry.offset;
+    let from = offset.0;
+    let end = from + entry.size as usize;
+    block::count_good(&image[from..end], entry)
+}
+
+// The number of points of the open key whose blocks are not decoded yet. It decodes none; the feed stays.
+pub fn count_points(image: &[u8], feed: Feed) -> usize
+    requires { ⌜ Stands (now image) feed ⌝ }
     ensures { λ r. ⌜ r ≡ length (blocksLeft (now (image .entry)) feed) ⌝ }
 {
-    let mut on = feed;
+    let start = feed.start;
+    let index = index_part(image, start);
+    let mut cursor = feed.cursor;
     let mut count: usize = 0;
-    loop {
-        match next_block(image, on, times, values) {
-            NextBlock::Block(next) => {
-                count += next.count;
-                on = next;
-            }
-            NextBlock::End => {
-                return count;
-            }
-        }
+    while cursor.left != 0 {
+        let Step::Entry(entry, on) = index::next(index, start, cursor) else {
+            return count;
+        };
+        count += count_block(image, entry);
+        cursor = on;
     }
+    count
 }
 
 // The next point of the open key, or the next block where all points of the decoded one were taken.

@@ -5,7 +5,7 @@
 --   first-known, second-known, repeated-count       form 2: by its second varint
 use mathlib.Core.Path.{_≡_, refl, sym, ap, _∙_}
 use mathlib.Core.Bool.{true, _&&_}
-use mathlib.Core.List.{List, [], _∷_, map}
+use mathlib.Core.List.{List, [], _∷_}
 use mathlib.Core.Logic.{_⊎_, inl, inr}
 use Prim.Native.Nat.{ℕ, _+_, _-_, _*_, _/_, _%_, _^_, _≤_, _<_}
 use native.Mathlib.Omega.{arith}
@@ -13,12 +13,12 @@ use borrow.Author.Tests.{leb-true, eqb-true, ne-eqb}
 use lib.Dec.{eqb, leb}
 use lib.IntN.{ℤ}
 use lib.Signed.{leZ}
-use lib.ListN.{length, take, drop, getD, replicate, length-map, length-drop, length-replicate}
+use lib.ListN.{length, take, drop, getD, length-map, length-drop, length-replicate}
 use Rattle.format.specs.declared.Refusal.the-variants.{Timestamps}
 use Rattle.format.specs.Limits.{readBlockMost, exponentMost, timeMost}
 use Rattle.format.specs.Choice.{every, isEmpty}
 use Rattle.format.specs.Refusals.{Result, ok, refused, isOk}
-use Rattle.format.specs.Bytes.{bigEndian, words}
+use Rattle.format.specs.Bytes.{bigEndian}
 use Rattle.format.specs.Signed.{signed}
 use Rattle.format.specs.Simple8b.{wordsOpen, wordsNumbers}
 use Rattle.format.specs.Form.{raw, packed, repeated, unknown, formOf}
