@@ -11,7 +11,7 @@ use Rattle.simple8b.proofs.Words.{Holds, count-of, short-holds}
 use Rattle.simple8b.proofs.append_short.Statement.{statement}
 use Rattle.simple8b.proofs.append_short.Tie as tie
 
-held : (c : tie.After-open-short) → Holds 20 (c .before .before .before .before .before .before .args .word) (c .open-short .result .numbers) (c .open-short .result .count)
+held : (c : tie.After-open-short) → Holds 60 (c .before .before .before .before .before .before .args .word) (c .open-short .result .numbers) (c .open-short .result .count)
 held c = short-holds (c .before .before .before .before .before .before .args .word) (omega (arith, c .before .before .before .before .before .before .fits)) (c .open-short .result) (c .open-short .ensures) (c .before .before .before .before .before .before .pre .0)
 
 cast-more : tie.Need-cast-more

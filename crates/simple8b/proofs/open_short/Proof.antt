@@ -11,7 +11,7 @@ use Rattle.simple8b.proofs.open_short.Tie as tie
 
 abbrev Inv-loop : tie.InvT-loop
 Inv-loop word width count mask opened₀ rest₀ i₀ opened rest i =
-    Spread 20 width count rest₀ (opened .numbers) i rest × (count ≤ 20) × (opened .count ≡ count)
+    Spread 60 width count rest₀ (opened .numbers) i rest × (count ≤ 60) × (opened .count ≡ count)
 
 abbrev μ-loop : tie.MeasureT-loop
 μ-loop word width count mask opened₀ rest₀ i₀ opened rest i = count - i
@@ -33,7 +33,7 @@ sub-mask : tie.Need-sub-mask Inv-loop μ-loop
 sub-mask c = mask-pos (c .before .before .args .selector .width) (selector (c .before) .wide)
 
 loop-holds : tie.Need-loop-holds Inv-loop μ-loop
-loop-holds c = (spread-start 20 _ _ _, selector (c .before) .few, refl)
+loop-holds c = (spread-start 60 _ _ _, selector (c .before) .few, refl)
 
 mul-opened : tie.Need-mul-opened Inv-loop μ-loop
 mul-opened c = omega arith
