@@ -24,8 +24,8 @@ grow : (x q r : ℕ) → q ≤ r → r ≤ 15 → fitsWidth (selectorWidth q) x 
 grow x q zero l m h = let e : q ≡ 0 = omega arith in subst (λ (k : ℕ). fitsWidth (selectorWidth k) x ≡ true) e h
 grow x q (suc r) l m h =
     elim (decLt q (suc r)) [
-      yes k ↦ fits-wider (selectorWidth r) (selectorWidth (suc r)) x (width-grows r (omega arith)) (grow x q r (omega arith) (omega arith) h) |
-      no k ↦ let e : q ≡ suc r = omega arith in subst (λ (k : ℕ). fitsWidth (selectorWidth k) x ≡ true) e h
+      | yes k ↦ fits-wider (selectorWidth r) (selectorWidth (suc r)) x (width-grows r (omega arith)) (grow x q r (omega arith) (omega arith) h)
+      | no k ↦ let e : q ≡ suc r = omega arith in subst (λ (k : ℕ). fitsWidth (selectorWidth k) x ≡ true) e h
     ]
 
 not-true : (b : Bool) → (b ≡ true → ⊥) → b ≡ false
