@@ -9,8 +9,6 @@ use lib.ListN.{length, take, drop, getD}
 use lib.IntN.{ℤ}
 use lib.Dec.{leb, ltb, eqb, lit<}
 use borrow.Author.Tests.{ltb-true, lt-ltb, eqb-true, eq-eqb}
-use Rattle.format.specs.declared.Kind.{Kind}
-use Rattle.format.specs.declared.Kind.the-variants.{Integer, Boolean}
 use Rattle.format.specs.declared.Entry.{Entry}
 use Rattle.format.specs.declared.Refusal.the-variants.{Checksum, BlockHead, Timestamps, Values, TimesDiffer}
 use Rattle.format.specs.Refusals.{Result, ok, refused, _>>=_, require}
@@ -27,18 +25,13 @@ use Rattle.format.specs.File.{blockOf, readBlocks, readSeries}
 use Rattle.format.proofs.AllBelow.{below-take, below-drop}
 use Rattle.format.proofs.Orders.{sameTime-path, same-time}
 use Rattle.numbers.proofs.Varints.{readVarint-varint}
-use Rattle.section_laws.proofs.Integers.{readIntegers-accepted}
-use Rattle.booleans.proofs.Reading as booleans
+use Rattle.booleans.proofs.Values.{values-count}
 use Rattle.acceptance.proofs.Varints.{varint-laid}
 use Rattle.acceptance.proofs.Times.{times-read, read-times}
 use Rattle.acceptance.proofs.Blocks.{values-read, read-values}
 use Rattle.theorems.specs.Faults.{Unless, UnlessSome, endsFault, valuesFault, timesFault, bodyFault, blockFault, blocksFault, seriesFault}
 use Rattle.theorems.proofs.Steps.{Exact, ok-exactly, leb-exactly, eqb-exactly, both-exactly, tested, require-exactly, require-exactly₂, some-exactly, then-exactly, after, within}
 use Rattle.theorems.proofs.SectionRefusals.{only-varint, only-times, only-values}
-
-values-count : (kind : Kind) (n section : ℕ) (bs vs : List ℕ) → readValues kind n section bs ≡ ok vs → length vs ≡ n
-values-count Integer n section bs vs e = readIntegers-accepted n section bs vs e .count
-values-count Boolean n section bs vs e = booleans.read-values n section bs vs e .0
 
 -- ---- a block
 
