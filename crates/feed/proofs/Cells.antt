@@ -8,7 +8,7 @@ use mathlib.Core.Path.{_≡_}
 use mathlib.Core.List.{List, [], _∷_}
 use native.Mathlib.Omega.{arith}
 use lib.IntN.{ℤ, pos}
-use lib.ListN.{length, take, drop, getD}
+use lib.ListN.{length, take, getD}
 use Rattle.format.specs.Meaning.{Point, pointOf}
 use Rattle.format.specs.Block.{pointsFrom}
 use Rattle.format.proofs.Parts.{part-next}

@@ -2,17 +2,16 @@
 --   starts-at-once, starts-some, starts-past   no selector before r takes x
 --   search-from    so the search may start at r
 --   search-empty   of no numbers, the last selector
-use mathlib.Core.Path.{_≡_, refl, sym, subst}
+use mathlib.Core.Path.{_≡_, refl, subst}
 use mathlib.Core.Bool.{Bool, true, false, and-false}
-use mathlib.Core.List.{List, [], _∷_}
+use mathlib.Core.List.{List}
 use Prim.Native.Nat.{ℕ, zero, suc, _^_, _≤_, _<_}
 use native.Mathlib.Decide.{decLt}
 use native.Mathlib.Omega.{arith}
 use borrow.Author.Tests.{ne-eqb, lt-leb}
-use lib.Dec.{leb, eqb}
+use lib.Dec.{leb}
 use lib.ListN.{length, getD}
 use Rattle.format.specs.Simple8b.{selectorCount, selectorWidth, fitsWidth, selectorFor}
-use Rattle.format.proofs.Tests.{never, true-or-false}
 use Rattle.section_laws.proofs.Selectors.{fitsSelector, count-least}
 use Rattle.simple8b.specs.Selectors.{Starts}
 use Rattle.simple8b.proofs.Table.{width-grows}
