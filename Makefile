@@ -45,6 +45,7 @@ test-interface: $(ARCHIVE)
 
 # The archive is built again, so that what is measured is what stands here.
 bench: lib
+	@sh .ci/tools cargo gcc valgrind
 	cargo build --offline --quiet --release --manifest-path bench/Cargo.toml
 	bench/target/release/tsm_bench --plot target/bench.svg >target/bench.md
 	@cat target/bench.md
