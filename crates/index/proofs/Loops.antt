@@ -3,6 +3,8 @@
 --   Deciding     the state of such a loop: a sound cursor, and what the loop makes of what is left from there
 --   loop-start   before the first step
 --   AfterKey, AfterEntry, After, loop-step   what each step gives the loop: fewer bytes are left, and its next state
+--   loop-open                                the same of a key that is opened
+--   AfterEntries, AfterSkip, loop-skip       the same of all entries of a key at once
 use Prim.Native.Nat.{ℕ, _+_, _-_, _≤_, _<_}
 use mathlib.Core.Path.{_≡_, refl, ap, sym, _∙_}
 use mathlib.Core.List.{List, []}
@@ -12,10 +14,13 @@ use Rattle.format.specs.declared.Entry.{Entry}
 use Rattle.format.specs.Limits.{imageMost, headerSize}
 use Rattle.format.specs.Refusals.{ok, refused}
 use Rattle.index.specs.declared.Cursor.{Cursor}
+use Rattle.index.specs.declared.Opened.{Opened}
+use Rattle.index.specs.declared.Skipped.{Skipped}
 use Rattle.index.specs.declared.Step.{Step}
-use Rattle.index.specs.Cursors.{stepAt, firstCursor, rest, Sound}
-use Rattle.index.proofs.Walks.{Remaining, beforeKey, beforeEntry}
+use Rattle.index.specs.Cursors.{openedAt, stepOf, skippedAt, pastEntries, entriesAt, stepAt, firstCursor, rest, Sound}
+use Rattle.index.proofs.Walks.{Remaining, beforeKey, beforeEntry, step-open}
 use Rattle.index.proofs.Sounds.{first-sound}
+use Rattle.index.proofs.Skips.{beforeEntries, OnEntries, on-entries, skip-refused}
 use Rattle.index.proofs.Steps.{OnKey, on-key, OnEntry, on-entry, at-end, at-refusal}
 
 -- the loop stands at c, and makes `decide` of what is left
@@ -64,3 +69,26 @@ module _ {A : Type 0} (index : List ℕ) (x : ℕ) (whole : A) (c : Cursor) (dec
       }
   loop-step Step.End e = sym (ap decide (at-end index x c e)) ∙ now .same
   loop-step (Step.Refused r place) e = sym (ap decide (at-refusal index x c r place e)) ∙ now .same
+
+  pub loop-open : c .left ≡ 0 → (o : Opened) → openedAt index x c ≡ o → After index x whole c decide (stepOf o)
+  loop-open none o e = loop-step (stepOf o) (step-open index x c none ∙ ap stepOf e)
+
+-- d is past the entries of the key of c
+pub record AfterEntries {A : Type 0} (index : List ℕ) (x : ℕ) (whole : A) (c : Cursor) (decide : Remaining → A) (d : Cursor) : Type 0 where
+  pub step : OnEntries index x c d
+  pub on : (next : Remaining → A) → ((later : Remaining) → decide (beforeEntries (entriesAt index c) later) ≡ next later) → Deciding index x whole d next
+
+abbrev pub AfterSkip : {A : Type 0} (index : List ℕ) (x : ℕ) (whole : A) (c : Cursor) (decide : Remaining → A) → Skipped → Type 0
+AfterSkip index x whole c decide (Skipped.Ended last) = AfterEntries index x whole c decide (pastEntries c last)
+AfterSkip index x whole c decide (Skipped.Refused r place) = decide (refused r (place .0)) ≡ whole
+
+module _ {A : Type 0} (index : List ℕ) (x : ℕ) (whole : A) (c : Cursor) (decide : Remaining → A) (now : Deciding index x whole c decide) where
+  pub loop-skip : (s : Skipped) → skippedAt index x c ≡ s → AfterSkip index x whole c decide s
+  loop-skip (Skipped.Ended last) e =
+      let step = on-entries index x c (now .sound) last e in
+      record {
+        step = step;
+        on = λ next agree.
+            record { sound = step .sound; same = sym (agree (rest index x (pastEntries c last))) ∙ sym (ap decide (step .was)) ∙ now .same };
+      }
+  loop-skip (Skipped.Refused r place) e = sym (ap decide (skip-refused index x c r place e)) ∙ now .same

@@ -15,8 +15,9 @@ use Rattle.format.specs.Choice.{if_then_else_, isEmpty}
 use Rattle.format.specs.Refusals.{Result, ok, refused}
 use Rattle.format.specs.Index.{blockSpan, checkEntry}
 use Rattle.index.specs.declared.Cursor.{Cursor}
+use Rattle.index.specs.declared.Opened.{Opened}
 use Rattle.index.specs.declared.Step.{Step}
-use Rattle.index.specs.Cursors.{keyAt, maxOf, readHead, headOf, opened, openedAt, taken, entryCheckOf, entryAt, takenAt, stepAt, firstCursor, Sound}
+use Rattle.index.specs.Cursors.{keyAt, maxOf, readHead, headOf, opened, openedAt, taken, entryCheckOf, entryAt, takenAt, stepOf, stepAt, firstCursor, Sound}
 use Rattle.index.proofs.Fits.{HeadFits, head-fits, BlockFits, EntryFits, entry-fits}
 use Rattle.index.proofs.Walks.{step-open, step-take}
 
@@ -28,25 +29,25 @@ StepSound index x c Step.End = Unit {0}
 StepSound index x c (Step.Refused r place) = Unit {0}
 
 module _ (index : List ℕ) (x : ℕ) (c : Cursor) (s : Sound index x c) where
-  end-sound : (t : Bool) → StepSound index x c (if t then Step.End else Step.Refused BlockPlace (record { 0 = x + c .at .0 }))
+  end-sound : (t : Bool) → StepSound index x c (stepOf (if t then Opened.End else Opened.Refused BlockPlace (record { 0 = x + c .at .0 })))
   end-sound true = tt
   end-sound false = tt
 
-  head-sound : (r : Result (ℕ × Kind × ℕ)) → HeadFits (drop (c .at .0) index) r → StepSound index x c (opened c (headOf r))
+  head-sound : (r : Result (ℕ × Kind × ℕ)) → HeadFits (drop (c .at .0) index) r → StepSound index x c (stepOf (opened c (headOf r)))
   head-sound (ok h) f =
       let room : h .0 + 5 + h .2 * 28 ≤ length index - c .at .0 = simp length-drop at (f .0) in
       (record { image = s .image; entries = omega (arith, s .entries); key = omega (arith, s .entries); ended = s .ended }, omega arith, f .1)
   head-sound (refused r place) f = tt
 
   open-by-sound : (t : Bool) → StepSound index x c
-      (if t then (if eqb (c .ended .0) x then Step.End else Step.Refused BlockPlace (record { 0 = x + c .at .0 }))
-      else opened c (headOf (readHead (x + c .at .0) (keyAt index (c .key)) (drop (c .at .0) index))))
+      (stepOf (if t then (if eqb (c .ended .0) x then Opened.End else Opened.Refused BlockPlace (record { 0 = x + c .at .0 }))
+      else opened c (headOf (readHead (x + c .at .0) (keyAt index (c .key)) (drop (c .at .0) index)))))
   open-by-sound true = end-sound (eqb (c .ended .0) x)
   open-by-sound false =
       head-sound (readHead (x + c .at .0) (keyAt index (c .key)) (drop (c .at .0) index))
       (head-fits (x + c .at .0) (keyAt index (c .key)) (drop (c .at .0) index))
 
-  pub open-sound : StepSound index x c (openedAt index x c)
+  pub open-sound : StepSound index x c (stepOf (openedAt index x c))
   unfolding openedAt
   open-sound = open-by-sound (isEmpty (drop (c .at .0) index))
 

@@ -12,31 +12,31 @@ add-a-end c = search needs
 add-b-end : tie.Need-add-b-end
 add-b-end c = search needs
 
-sub-stands-before : tie.Need-sub-stands-before
-sub-stands-before c = search needs
+sub-key-before : tie.Need-sub-key-before
+sub-key-before c = search needs
 
-part-stands-before-start : tie.Need-part-stands-before-start
-part-stands-before-start c = search needs
+part-key-before-start : tie.Need-part-key-before-start
+part-key-before-start c = search needs
 
-part-stands-before-end : tie.Need-part-stands-before-end
-part-stands-before-end c = search needs
+part-key-before-end : tie.Need-part-key-before-end
+part-key-before-end c = search needs
 
-sub-stands-before-2 : tie.Need-sub-stands-before-2
-sub-stands-before-2 c = search needs
+sub-key-before-2 : tie.Need-sub-key-before-2
+sub-key-before-2 c = search needs
 
-part-stands-before-start-2 : tie.Need-part-stands-before-start-2
-part-stands-before-start-2 c = search needs
+part-key-before-start-2 : tie.Need-part-key-before-start-2
+part-key-before-start-2 c = search needs
 
-part-stands-before-end-2 : tie.Need-part-stands-before-end-2
-part-stands-before-end-2 c = search needs
+part-key-before-end-2 : tie.Need-part-key-before-end-2
+part-key-before-end-2 c = search needs
 
-stands-before-requires : tie.Need-stands-before-requires
-stands-before-requires c κs = search needs
+key-before-requires : tie.Need-key-before-requires
+key-before-requires c κs = search needs
 
 returns : tie.Need-returns
 returns c =
     let p = c .before .before .before .before .before .before .before .args in
-    c .stands-before .ensures
+    c .key-before .ensures
     ∙ ap₂ keyBefore (part-lent (p .s .now) (p .a .at .0) (p .a .len)) (part-lent (p .t .now) (p .b .at .0) (p .b .len))
 
 pub key-before-spec : {M : Type 1} → statement M
@@ -45,11 +45,11 @@ key-before-spec =
     (tie.spec
     add-a-end
     add-b-end
-    sub-stands-before
-    part-stands-before-start
-    part-stands-before-end
-    sub-stands-before-2
-    part-stands-before-start-2
-    part-stands-before-end-2
-    stands-before-requires
+    sub-key-before
+    part-key-before-start
+    part-key-before-end
+    sub-key-before-2
+    part-key-before-start-2
+    part-key-before-end-2
+    key-before-requires
     returns)

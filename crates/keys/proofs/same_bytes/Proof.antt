@@ -1,9 +1,11 @@
 -- `keys::same_bytes` meets its contract: the bytes passed are equal, so the bytes from here on decide.
+use borrow.Author.Needs.{needs}
 use Prim.Native.Nat.{_-_, _≤_}
-use mathlib.Core.Path.{_≡_, refl, sym, _∙_}
+use mathlib.Core.Path.{_≡_, sym, _∙_}
 use native.Mathlib.Omega.{arith}
 use lib.ListN.{length, drop}
 use Rattle.format.specs.Choice.{sameList}
+use Rattle.keys.proofs.Prefixes.{same-rest}
 use Rattle.keys.proofs.Sames.{same-lengths, same-end, same-differ, same-on}
 use Rattle.keys.proofs.same_bytes.Statement.{statement}
 use Rattle.keys.proofs.same_bytes.Tie as tie
@@ -17,11 +19,17 @@ abbrev μ-loop : tie.MeasureT-loop
 
 returns : tie.Need-returns Inv-loop μ-loop
 returns c =
-    let p = c .before .args in
+    let p = c .before .before .before .args in
     sym (same-lengths (p .first .now) (p .second .now) (λ e. c .if1 .taken e))
 
+alike-requires : tie.Need-alike-requires Inv-loop μ-loop
+alike-requires c κs = search needs
+
 loop-holds : tie.Need-loop-holds Inv-loop μ-loop
-loop-holds c = (omega arith, omega arith, refl)
+loop-holds c =
+    let a = c .before .before .before .before .args in
+    let same : length (a .first .now) ≡ length (a .second .now) = omega arith in
+    (c .alike .ensures .within, same, same-rest (a .first .now) (a .second .now) (length (a .first .now)) (c .alike .result) (omega arith) (omega arith) (c .alike .ensures))
 
 shared-slice-read-if2 : tie.Need-shared-slice-read-if2 Inv-loop μ-loop
 shared-slice-read-if2 c = omega arith
@@ -31,7 +39,7 @@ shared-slice-read-if2-2 c = omega arith
 
 returns-2 : tie.Need-returns-2 Inv-loop μ-loop
 returns-2 c =
-    let p = c .before .before .before .before .before .before .args in
+    let p = c .before .before .before .before .before .before .before .before .before .args in
     let l = c .before .before .before .before .loop in
     sym (same-differ (p .first .now) (p .second .now) (l .i) (omega arith) (omega arith) (λ e. c .if2 .taken e)) ∙ l .inv .2
 
@@ -43,13 +51,13 @@ loop-less c = omega arith
 
 loop-again : tie.Need-loop-again Inv-loop μ-loop
 loop-again c =
-    let p = c .before .before .before .before .before .before .args in
+    let p = c .before .before .before .before .before .before .before .before .before .args in
     let l = c .before .before .before .before .loop in
     (omega arith, l .inv .1, sym (same-on (p .first .now) (p .second .now) (l .i) (omega arith) (omega arith) (c .if2 .left)) ∙ l .inv .2)
 
 returns-3 : tie.Need-returns-3 Inv-loop μ-loop
 returns-3 c =
-    let p = c .before .before .before .args in
+    let p = c .before .before .before .before .before .before .args in
     let l = c .before .loop in
     sym (same-end (p .first .now) (p .second .now) (l .i) (omega arith) (omega arith)) ∙ l .inv .2
 
@@ -60,6 +68,7 @@ same-bytes-spec =
     Inv-loop
     μ-loop
     returns
+    alike-requires
     loop-holds
     shared-slice-read-if2
     shared-slice-read-if2-2
