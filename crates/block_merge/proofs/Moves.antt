@@ -1,6 +1,5 @@
 -- Points go from the blocks into the fill.
 --   cells-next, cells-none   the first point of some cells, and none
---   filled-more              one point more in the fill
 --   merge-next               the next point of a merge, by which time is earlier
 --   moved-none, moved-on, next-moved   no point, two moves one after the other, and one point
 --   copied-none, copied-next           no point of one block, and one point more
@@ -24,6 +23,7 @@ use Rattle.format.proofs.Orders.{time-irreflexive, time-transitive, time-total}
 use Rattle.format.proofs.Parts.{part-next, part-none}
 use Rattle.merging.proofs.Walk.{points-older, points-newer, points-both}
 use Rattle.block_writer.specs.Filled.{filled}
+use Rattle.builder.proofs.Fills.{fuller-is}
 use Rattle.block_merge.specs.Cells.{cells, step, NextLaid, merged, Moved, Copied}
 
 -- ---- the cells
@@ -40,21 +40,6 @@ module _ (times : List ℤ) (values : List ℕ) (from to : ℕ) where
     pub cells-next : cells from to times values ≡ here ∷ cells (from + 1) to times values
     unfolding cells
     cells-next = rw (part-next times (pos 0) from to h in-times, part-next values 0 from to h in-values)
-
--- ---- the fill
-
-points-more : (ts : List ℤ) (vs : List ℕ) (t : ℤ) (v : ℕ) → length ts ≡ length vs
-    → pointsFrom (ts ++ (t ∷ [])) (vs ++ (v ∷ [])) ≡ pointsFrom ts vs ++ (pointOf t v ∷ [])
-points-more [] [] t v e = refl
-points-more [] (w ∷ vs) t v e = absurd (omega (arith, e))
-points-more (u ∷ ts) [] t v e = absurd (omega (arith, e))
-points-more (u ∷ ts) (w ∷ vs) t v e = ap (λ (ps : List Point). pointOf u w ∷ ps) (points-more ts vs t v (omega (arith, e)))
-
-pub filled-more : (n : ℕ) (times : List ℤ) (values : List ℕ) (t : ℤ) (v : ℕ) → n < length times → n < length values
-    → filled (n + 1) (set times n t) (set values n v) ≡ filled n times values ++ (pointOf t v ∷ [])
-filled-more n times values t v h k =
-    rw (add-one, take-suc-set times n t h, take-suc-set values n v k)
-    (points-more (take n times) (take n values) t v (length-take-le n times (omega arith) ∙ sym (length-take-le n values (omega arith))))
 
 -- ---- the next point
 
@@ -137,7 +122,7 @@ module _ (olderTimes : List ℤ) (olderValues : List ℕ) (iEnd : ℕ) (newerTim
             laid .newer,
             laid .time,
             laid .value,
-            filled-more n times values _ _ in-times in-values,
+            fuller-is n times values _ _ in-times in-values,
             stepped olderTimes olderValues i iEnd (ltZ b a) h in-older with-older ps,
             stepped newerTimes newerValues j jEnd (ltZ a b) k in-newer with-newer qs,
             cells-next olderTimes olderValues i iEnd h in-older with-older,
@@ -163,6 +148,6 @@ module _ (sourceTimes : List ℤ) (sourceValues : List ℕ) (from end : ℕ) (ti
     same = λ ps.
         let e : n + (i + 1) ≡ n + i + 1 = omega arith in
         let k : from + (i + 1) ≡ from + i + 1 = omega arith in
-        rw (e, k, filled-more (n + i) times′ values′ _ _ in-times in-values, append-assoc (filled (n + i) times′ values′))
+        rw (e, k, fuller-is (n + i) times′ values′ _ _ in-times in-values, append-assoc (filled (n + i) times′ values′))
         (ap (λ (l : List Point). filled (n + i) times′ values′ ++ (l ++ ps)) (sym (cells-next sourceTimes sourceValues (from + i) end more inside within)) ∙ h .same ps);
   }
