@@ -1,5 +1,6 @@
 -- The steps of a pass within a key: what each asks holds, and after it what the next asks.
 --   past-key                                  a place of the open key is past every image
+--   extend-fits, extend-filling, extend-same   points are added
 --   push-fits, push-filling, push-same        a point is added
 --   end-fits, count-fits, count-room, end-same   the key is closed
 use Prim.Native.Nat.{ℕ, _+_, _≤_, _<_}
@@ -22,11 +23,11 @@ use Rattle.block_writer.specs.Filled.{filled, BlockFits}
 use Rattle.builder.specs.declared.Places.{Places}
 use Rattle.builder.specs.Open.{entriesLeft}
 use Rattle.numbers.specs.Laying.{Room}
-use Rattle.builder.specs.Steps.{FlushFits, PushFits, EndFits, CountFits, KeyFits, Closed, keyEnd, fuller, stays, fillPlaces, flushPlaces, flushBytes, pushPlaces, pushBytes, pushFill, endPlaces, endBytes}
-use Rattle.builder.proofs.Lefts.{Ends, ends-full, ends-last, pushed-blocks, pushed-entries}
-use Rattle.builder.proofs.Fills.{points-more, push-stays, push-flushes}
+use Rattle.builder.specs.Steps.{FlushFits, ExtendFits, PushFits, EndFits, CountFits, KeyFits, Closed, keyEnd, fuller, stays, fillPlaces, flushPlaces, flushBytes, extendPlaces, extendBytes, extendFill, pushPlaces, pushBytes, pushFill, endPlaces, endBytes}
+use Rattle.builder.proofs.Lefts.{Ends, ends-full, ends-last, grown-entries}
+use Rattle.builder.proofs.Fills.{points-more, filled-length, extend-stays, extend-flushes, extend-fill}
 use Rattle.builder.proofs.Futures.{end-future}
-use Rattle.builder.proofs.Pushes.{push-future, flush-room, flush-kept, entries-length}
+use Rattle.builder.proofs.Pushes.{fits-same, extend-future, flush-room, flush-kept, entries-length}
 use Rattle.builder.specs.Passes.{Near, KeyRoom, KeyOpen, Filling, Past}
 use Rattle.builder.proofs.Fillings.{every-right, ascends-right, fill-ascends, fill-of-kind}
 
@@ -36,40 +37,28 @@ pub past-key : (laying : Bool) (kind : Kind) (f ps : List Point) (s : Places) (o
 unfolding keyEnd
 past-key laying kind f ps s out h = record { past = λ b e. h (omega (arith, b)) (omega (arith, e)) }
 
--- ---- a point is added to the fill f
+-- ---- points qs are added to the fill f, and ps are to come
 
-module _ (laying : Bool) (kind : Kind) (f : List Point) (p : Point) (ps : List Point) (s : Places) (out : List ℕ) (h : KeyOpen laying kind f (p ∷ ps) s out) where
+module _ (laying : Bool) (kind : Kind) (f qs ps : List Point) (s : Places) (out : List ℕ) (h : KeyOpen laying kind f (qs ++ ps) s out) (most : length (f ++ qs) ≤ writerBlockMost) where
   abbrev f′ : List Point
-  f′ = f ++ (p ∷ [])
-
-  longer : length f′ ≡ length f + 1
-  longer = length-append f (p ∷ [])
-
-  moved : f′ ++ ps ≡ f ++ (p ∷ ps)
-  moved = append-assoc f (p ∷ []) ps
+  f′ = f ++ qs
 
   still-good : every (goodPoint kind) (f′ ++ ps) ≡ true
-  still-good = rw moved (h .good)
+  still-good = rw (append-assoc f qs ps) (h .good)
 
   still-ascend : ascends pointBefore (f′ ++ ps) ≡ true
-  still-ascend = rw moved (h .ascend)
+  still-ascend = rw (append-assoc f qs ps) (h .ascend)
 
   key-fits : laying ≡ true → KeyFits kind f′ ps s out
-  key-fits l =
-      let fits = h .room l .fits in
-      record {
-        blocks = rw (pushed-blocks f p ps kind) (fits .blocks);
-        count = fits .count;
-        entries = rw (pushed-entries f p ps kind (s .block)) (fits .entries);
-      }
+  key-fits l = fits-same laying kind f qs ps s out (h .room l .fits)
 
   key-most : laying ≡ true → s .entry + length (entriesLeft kind (s .block) f′ ps) ≤ imageMost
-  key-most l = rw (pushed-entries f p ps kind (s .block)) (h .room l .most)
+  key-most l = rw (grown-entries f qs ps kind (s .block)) (h .room l .most)
 
-  filled-open : length f′ < writerBlockMost → KeyOpen laying kind f′ ps (fillPlaces s) out
+  filled-open : length f′ < writerBlockMost → KeyOpen laying kind f′ ps (fillPlaces (length f′) s) out
   unfolding fillPlaces
   filled-open few = record {
-    fill = omega (arith, longer, h .fill);
+    fill = refl;
     few = few;
     good = still-good;
     ascend = still-ascend;
@@ -110,26 +99,26 @@ module _ (laying : Bool) (kind : Kind) (f : List Point) (p : Point) (ps : List P
       room = flushed-room;
     }
 
-  push-open : Near (s .block) (s .entry) → KeyOpen laying kind (pushFill f′) ps (pushPlaces kind f′ s) (pushBytes laying kind f′ s out)
-  push-open near = go (stays f′) refl
+  extend-open : Near (s .block) (s .entry) → KeyOpen laying kind (extendFill f′) ps (extendPlaces kind f′ s) (extendBytes laying kind f′ s out)
+  extend-open near = go (stays f′) refl
     where
       same : {g g′ : List Point} {q q′ : Places} {x x′ : List ℕ} → g ≡ g′ → q ≡ q′ → x ≡ x′ → KeyOpen laying kind g′ ps q′ x′ → KeyOpen laying kind g ps q x
       same a b c k = rw (a, b, c) k
 
-      go : (b : Bool) → stays f′ ≡ b → KeyOpen laying kind (pushFill f′) ps (pushPlaces kind f′ s) (pushBytes laying kind f′ s out)
+      go : (b : Bool) → stays f′ ≡ b → KeyOpen laying kind (extendFill f′) ps (extendPlaces kind f′ s) (extendBytes laying kind f′ s out)
       go true e =
-          let k = push-stays laying kind f′ s out e in
+          let k = extend-stays laying kind f′ s out e in
           same (k .2) (k .0) (k .1) (filled-open (ltb-true (length f′) writerBlockMost e))
       go false e =
-          let k = push-flushes laying kind f′ s out e in
-          same (k .2) (k .0) (k .1) (flushed-open (omega (arith, longer, h .few, ltb-false (length f′) writerBlockMost e)) near)
+          let k = extend-flushes laying kind f′ s out e in
+          same (k .2) (k .0) (k .1) (flushed-open (omega (arith, most, ltb-false (length f′) writerBlockMost e)) near)
 
   -- where the fill is full, there is room for its block
-  push-room : writerBlockMost ≤ s .filled + 1 → FlushFits laying kind f′ s out
-  push-room full = go laying refl
+  extend-room : writerBlockMost ≤ length f′ → FlushFits laying kind f′ s out
+  extend-room full = go laying refl
     where
       go : (b : Bool) → laying ≡ b → FlushFits b kind f′ s out
-      go true l = flush-room kind f′ ps (ends-full f′ ps (omega (arith, longer, h .few, h .fill, full))) s out (key-fits l)
+      go true l = flush-room kind f′ ps (ends-full f′ ps (omega (arith, most, full))) s out (key-fits l)
       go false l = record { block-room = tt; entry-room = tt }
 
 -- ---- the fill in two arrays
@@ -145,6 +134,73 @@ module _ (laying : Bool) (kind : Kind) (ps : List Point) (s : Places) (times : L
 
   even : Filling laying kind ps s times values out → length (take n times) ≡ length (take n values)
   even h = length-take-le n times (inside h .0) ∙ sym (length-take-le n values (inside h .1))
+
+-- points are added: the first m cells are the fill and the points ps, and qs are to come
+module _ (laying : Bool) (kind : Kind) (ps qs : List Point) (s : Places) (times : List ℤ) (values out : List ℕ) (h : Filling laying kind (ps ++ qs) s times values out)
+    (m : ℕ) (times′ : List ℤ) (values′ : List ℕ) (cells : filled m times′ values′ ≡ filled (s .filled) times values ++ ps)
+    (most : m ≤ writerBlockMost) (same-times : length times′ ≡ length times) (same-values : length values′ ≡ length values) where
+  abbrev grown : List Point
+  grown = filled (s .filled) times values ++ ps
+
+  in-cells : (m ≤ length times′) × (m ≤ length values′)
+  in-cells = (omega (arith, most, same-times, h .in-times), omega (arith, most, same-values, h .in-values))
+
+  grown-length : length grown ≡ m
+  grown-length = sym (ap length cells) ∙ filled-length m times′ values′ (in-cells .0) (in-cells .1)
+
+  grown-few : length grown ≤ writerBlockMost
+  grown-few = omega (arith, grown-length, most)
+
+  grown-even : length (take m times′) ≡ length (take m values′)
+  grown-even = length-take-le m times′ (in-cells .0) ∙ sym (length-take-le m values′ (in-cells .1))
+
+  with-points : filled m times′ values′ ++ qs ≡ filled (s .filled) times values ++ (ps ++ qs)
+  with-points = ap (λ (rs : List Point). rs ++ qs) cells ∙ append-assoc (filled (s .filled) times values) ps qs
+
+  full-fits : writerBlockMost ≤ m → BlockFits kind times′ values′ m
+  full-fits full =
+      let count : (1 ≤ m) × (m ≤ writerBlockMost) = (omega (arith, full), most) in
+      record {
+        times-fit = record { count = count; inside = in-cells .0; ascend = fill-ascends (take m times′) (take m values′) qs grown-even (rw with-points (h .key .ascend)) };
+        values-fit = record { count = count; inside = in-cells .1; of-kind = fill-of-kind kind (take m times′) (take m values′) qs grown-even (rw with-points (h .key .good)) };
+      }
+
+  pub extend-fits : ExtendFits laying kind times′ values′ m s out
+  extend-fits = record {
+    most = most;
+    in-times = in-cells .0;
+    in-values = in-cells .1;
+    places-fit = h .key .places-fit;
+    block-fits = full-fits;
+    flush-fits = λ full.
+        subst (λ (f : List Point). FlushFits laying kind f s out) (sym cells)
+        (extend-room laying kind (filled (s .filled) times values) ps qs s out (h .key) grown-few (omega (arith, grown-length, full)));
+  }
+
+  -- the places and bytes after it
+  module _ (s′ : Places) (out′ : List ℕ)
+      (places : s′ ≡ extendPlaces kind (filled m times′ values′) s)
+      (laid : out′ ≡ extendBytes laying kind (filled m times′ values′) s out) where
+    fill : filled (s′ .filled) times′ values′ ≡ extendFill grown
+    fill = extend-fill kind m times′ values′ s s′ (in-cells .0) (in-cells .1) places ∙ ap extendFill cells
+
+    places-are : s′ ≡ extendPlaces kind grown s
+    places-are = places ∙ ap (λ (f : List Point). extendPlaces kind f s) cells
+
+    laid-are : out′ ≡ extendBytes laying kind grown s out
+    laid-are = laid ∙ ap (λ (f : List Point). extendBytes laying kind f s out) cells
+
+    pub extend-filling : Near (s .block) (s .entry) → Filling laying kind qs s′ times′ values′ out′
+    extend-filling near = record {
+      in-times = omega (arith, same-times, h .in-times);
+      in-values = omega (arith, same-values, h .in-values);
+      key = rw (fill, places-are, laid-are) (extend-open laying kind (filled (s .filled) times values) ps qs s out (h .key) grown-few near);
+    }
+
+    pub extend-same : keyEnd laying kind (filled (s′ .filled) times′ values′) qs s′ out′ ≡ keyEnd laying kind (filled (s .filled) times values) (ps ++ qs) s out
+    extend-same =
+        rw (fill, places-are, laid-are)
+        (extend-future laying kind (filled (s .filled) times values) ps qs s out grown-few (λ l. h .key .room l .fits))
 
 module _ (laying : Bool) (kind : Kind) (t : ℤ) (v : ℕ) (ps : List Point) (s : Places) (times : List ℤ) (values out : List ℕ) (h : Filling laying kind (pointOf t v ∷ ps) s times values out) where
   abbrev ts : List ℤ
@@ -167,6 +223,12 @@ module _ (laying : Bool) (kind : Kind) (t : ℤ) (v : ℕ) (ps : List Point) (s 
       ap (λ (qs : List Point). qs ++ ps) (points-more (take (s .filled) times) (take (s .filled) values) t v (even laying kind (pointOf t v ∷ ps) s times values out h))
       ∙ append-assoc (filled (s .filled) times values) (pointOf t v ∷ []) ps
 
+  longer : length (fuller (s .filled) times values t v) ≡ length (filled (s .filled) times values) + 1
+  longer = length-append (filled (s .filled) times values) (pointOf t v ∷ [])
+
+  one-fits : length (fuller (s .filled) times values t v) ≤ writerBlockMost
+  one-fits = omega (arith, longer, h .key .few)
+
   pub push-fits : PushFits laying kind times values s t v out
   push-fits = record {
     few = omega (arith, h .key .fill, h .key .few);
@@ -175,7 +237,8 @@ module _ (laying : Bool) (kind : Kind) (t : ℤ) (v : ℕ) (ps : List Point) (s 
     ascend = fill-ascends ts vs ps even-more (rw with-point (h .key .ascend));
     of-kind = fill-of-kind kind ts vs ps even-more (rw with-point (h .key .good));
     places-fit = h .key .places-fit;
-    flush-fits = push-room laying kind (filled (s .filled) times values) (pointOf t v) ps s out (h .key);
+    flush-fits = λ full.
+        extend-room laying kind (filled (s .filled) times values) (pointOf t v ∷ []) ps s out (h .key) one-fits (omega (arith, longer, h .key .fill, full));
   }
 
   -- the places, arrays and bytes after it
@@ -187,13 +250,13 @@ module _ (laying : Bool) (kind : Kind) (t : ℤ) (v : ℕ) (ps : List Point) (s 
     push-filling near same-times same-values = record {
       in-times = omega (arith, same-times, h .in-times);
       in-values = omega (arith, same-values, h .in-values);
-      key = rw (fill, places, laid) (push-open laying kind (filled (s .filled) times values) (pointOf t v) ps s out (h .key) near);
+      key = rw (fill, places, laid) (extend-open laying kind (filled (s .filled) times values) (pointOf t v ∷ []) ps s out (h .key) one-fits near);
     }
 
     pub push-same : keyEnd laying kind (filled (s′ .filled) times′ values′) ps s′ out′ ≡ keyEnd laying kind (filled (s .filled) times values) (pointOf t v ∷ ps) s out
     push-same =
         rw (fill, places, laid)
-        (push-future laying kind (filled (s .filled) times values) (pointOf t v) ps s out (h .key .few) (λ l. h .key .room l .fits))
+        (extend-future laying kind (filled (s .filled) times values) (pointOf t v ∷ []) ps s out one-fits (λ l. h .key .room l .fits))
 
 -- ---- the key is closed
 
