@@ -1,5 +1,4 @@
 -- The results of acts, by the results of their parts.
---   file-index                    the index and the series of a file that is read
 --   find-refused, found-block     the block of an entry, from what find gave
 --   block-given, block-short      read block, by the points of that block
 --   image-long, image-short, image-fits   our writer's image: past its limit, past the buffer, or neither
@@ -19,16 +18,10 @@ use Rattle.format.specs.Limits.{imageMost}
 use Rattle.format.specs.Refusals.{ok, refused}
 use Rattle.format.specs.Meaning.{Point, Meaning}
 use Rattle.format.specs.Block.{readBlock}
-use Rattle.format.specs.Index.{IndexKey}
-use Rattle.format.specs.File.{readIndex, readSeries, readFile, blockOf}
+use Rattle.format.specs.File.{blockOf}
 use Rattle.format.specs.Find.{findEntry, findBlock}
 use Rattle.format.specs.Writer.{writerImage}
 use Rattle.format.specs.Acts.{readBlockResult, imageResult}
-use Rattle.format.proofs.Results.{bind-ok}
-
-pub file-index : (image : List ℕ) (m : Meaning) → readFile image ≡ ok m → (keys : List IndexKey) × (readIndex image ≡ ok keys) × (readSeries image keys ≡ ok m)
-unfolding readFile
-file-index image m read = bind-ok (readIndex image) (readSeries image) m read
 
 module _ (image key : List ℕ) (t : ℤ) where
   pub find-refused : (r : Refusal) (place : ℕ) → findEntry image key t ≡ refused r place → findBlock image key t ≡ refused r place
