@@ -127,7 +127,7 @@ read-keys (suc fuel) x at ended before (b ∷ bs) ks enough e =
     let same : a .0 .0 ∷ c .0 ≡ ks = cc (c .2) in
     let rest : length (drop (keyExtent (b ∷ bs)) (b ∷ bs)) ≤ fuel = omega (arith, length-drop (keyExtent (b ∷ bs)) (b ∷ bs)) in
     subst (λ (q : List IndexKey). KeysRead x ended before (b ∷ bs) q) same
-    (key-more x ended before (b ∷ bs) (a .0 .0) (a .0 .1) (c .0) 
+    (key-more x ended before (b ∷ bs) (a .0 .0) (a .0 .1) (c .0)
     (key-read-from x at ended before (b ∷ bs) (a .0 .0) (a .0 .1) (key-parts (blockSpan ended x) at before (b ∷ bs) (a .0) (a .1)))
     (read-keys fuel x (at + keyExtent (b ∷ bs)) (a .0 .1) (a .0 .0 .key) (drop (keyExtent (b ∷ bs)) (b ∷ bs)) (c .0)
     rest (c .1)))
