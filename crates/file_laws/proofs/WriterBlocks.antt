@@ -28,9 +28,10 @@ use Rattle.format.specs.Writer.{writerEntries}
 use Rattle.format.proofs.AllBelow.{each-below}
 use Rattle.format.proofs.Lists.{each-map, each-image, every-each, each-flatMap, ascends-map}
 use Rattle.section_laws.proofs.Differences.{inRange, Times}
-use Rattle.section_laws.proofs.Timestamps.{readTimes-section, timesSection-some, timesSection-bytes}
+use Rattle.section_laws.proofs.Timestamps.{readTimes-section}
+use Rattle.section_laws.proofs.SectionLengths.{timesSection-some, timesSection-bytes, integersSection-bytes}
 use Rattle.section_laws.proofs.BlockLengths.{valuesSection-some}
-use Rattle.section_laws.proofs.Integers.{readIntegers-section, integersSection-bytes}
+use Rattle.section_laws.proofs.Integers.{readIntegers-section}
 use Rattle.merging.proofs.Sorted.{Ascending, ascends-ascending}
 use Rattle.merging.proofs.Orders.{byTime}
 use Rattle.merging.proofs.Facts.{GoodPoint}

@@ -1,28 +1,20 @@
--- The enums of the acts, and the results that they say.
+-- What an answer says of the result that it comes of.
 --   refusal-same              two refusals of one number are the same
 --   gives-path, refuses-path  two answers that are equal
 --   answer-ok, answer-refused, answer-number   what an answer says of its result
---   checkedOf, foundOf, blockReadOf, pointReadOf, writtenOf   the case that says a result
---   ..-says                   and that it does
 --   checked-accepted, check-refused   the full check of an image: with totals it is accepted, with a refusal it is refused
 use Prim.Native.Nat.{ℕ}
 use mathlib.Core.Path.{_≡_, refl, sym, ap, _∙_}
 use native.Mathlib.Omega.{arith}
 use mathlib.Core.List.{List, [], _∷_}
 use lib.ListN.{getD}
-use lib.IntN.{ℤ}
 use mathlib.Core.Bool.{true}
-use Rattle.format.specs.declared.Entry.{Entry}
 use Rattle.format.specs.declared.Refusal.{Refusal}
 use Rattle.format.specs.declared.Refusal.the-variants.{ImageLength, Magic, Version, IndexStart, EntryPastIndex, KeyLength, UnknownKind, NoBlocks, KeyOrder, TimeOrder, BlockPlace, Checksum, BlockHead, Timestamps, Values, TimesDiffer, NoSuchKey, NoEntry, ShortBuffer, BadRoll, KindClash, ImageTooLong, NoPoint}
 use Rattle.format.specs.declared.Checked.{Checked}
-use Rattle.format.specs.declared.Found.{Found}
-use Rattle.format.specs.declared.BlockRead.{BlockRead}
-use Rattle.format.specs.declared.PointRead.{PointRead}
-use Rattle.format.specs.declared.Written.{Written}
 use Rattle.format.specs.Refusals.{Result, ok, refused, refusalNumber, Answer, gives, refuses, answerOf, isOk}
 use Rattle.format.specs.Meaning.{Meaning}
-use Rattle.format.specs.Acts.{checkResult, checkAnswer, checkedSays, foundSays, blockReadSays, pointReadSays, writtenSays}
+use Rattle.format.specs.Acts.{checkResult, checkAnswer, checkedSays}
 use Rattle.format.specs.File.{readFile}
 
 -- the refusals by number; none has the number 0
@@ -95,46 +87,6 @@ module _ {A : Type 0} where
   pub answer-number : (x : Result A) (n : ℕ) → answerOf x ≡ refuses n → (r : Refusal) × (place : ℕ) × (x ≡ refused r place) × (refusalNumber r ≡ n)
   answer-number (ok b) n e = let z : _≡_ {A = ℕ} 0 1 = cc in absurd (omega arith)
   answer-number (refused q place) n e = (q, place, refl, refuses-path e)
-
-abbrev pub checkedOf : Result (ℕ × ℕ) → Checked
-checkedOf (ok t) = Checked.Totals (t .0) (t .1)
-checkedOf (refused r place) = Checked.Refused r
-
-pub checked-says : (x : Result (ℕ × ℕ)) → checkedSays (checkedOf x) ≡ answerOf x
-checked-says (ok t) = refl
-checked-says (refused r place) = refl
-
-abbrev pub foundOf : Result Entry → Found
-foundOf (ok e) = Found.At e
-foundOf (refused r place) = Found.Refused r
-
-pub found-says : (x : Result Entry) → foundSays (foundOf x) ≡ answerOf x
-found-says (ok e) = refl
-found-says (refused r place) = refl
-
-abbrev pub blockReadOf : Result (Entry × ℕ) → BlockRead
-blockReadOf (ok b) = BlockRead.Points (b .0) (b .1)
-blockReadOf (refused r place) = BlockRead.Refused r
-
-pub blockRead-says : (x : Result (Entry × ℕ)) → blockReadSays (blockReadOf x) ≡ answerOf x
-blockRead-says (ok b) = refl
-blockRead-says (refused r place) = refl
-
-abbrev pub pointReadOf : Result (Entry × ℤ) → PointRead
-pointReadOf (ok p) = PointRead.Value (p .0) (p .1)
-pointReadOf (refused r place) = PointRead.Refused r
-
-pub pointRead-says : (x : Result (Entry × ℤ)) → pointReadSays (pointReadOf x) ≡ answerOf x
-pointRead-says (ok p) = refl
-pointRead-says (refused r place) = refl
-
-abbrev pub writtenOf : Result ℕ → Written
-writtenOf (ok n) = Written.Bytes n
-writtenOf (refused r place) = Written.Refused r
-
-pub written-says : (x : Result ℕ) → writtenSays (writtenOf x) ≡ answerOf x
-written-says (ok n) = refl
-written-says (refused r place) = refl
 
 -- ---- the full check of an image
 

@@ -16,7 +16,7 @@ use lib.Dec.{ltb, leb, eqb}
 use lib.ListN.{length}
 use lib.IntN.{ℤ, pos, negsuc}
 use lib.Signed.{ltZ, leZ, mag}
-use borrow.Author.Tests.{ltb-true, ltb-false, lt-ltb, le-ltb, leb-true, le-leb, lt-leb, eqb-true, eq-eqb, ne-eqb, not-true}
+use borrow.Author.Tests.{ltb-true, ltb-false, lt-ltb, le-ltb, leb-true, le-leb, lt-leb, eqb-true, eq-eqb, not-true}
 use Rattle.format.specs.Limits.{timeLeast, timeMost}
 use Rattle.format.specs.Choice.{sameList}
 use Rattle.format.specs.Signed.{sameTime}
@@ -103,16 +103,10 @@ lt-le a b h =
     ∙ ap not (⊎-elim (λ k. never (time-transitive a b a h k) (time-irreflexive a)) (λ k. k) (true-or-false (ltZ b a)))
 
 pub same-time : (t u : ℤ) → t ≡ u → sameTime t u ≡ true
-same-time (pos a) (pos b) e = eq-eqb a b (cc)
-same-time (pos a) (negsuc b) e = cc
-same-time (negsuc a) (pos b) e = cc
-same-time (negsuc a) (negsuc b) e = eq-eqb a b (cc)
+same-time t u e = rw e (sameTime-refl u)
 
 pub other-time : (t u : ℤ) → (t ≡ u → ⊥) → sameTime t u ≡ false
-other-time (pos a) (pos b) e = ne-eqb a b (λ h. e (ap pos h))
-other-time (pos a) (negsuc b) e = refl
-other-time (negsuc a) (pos b) e = refl
-other-time (negsuc a) (negsuc b) e = ne-eqb a b (λ h. e (ap negsuc h))
+other-time t u d = ⊎-elim (λ h. absurd (d (sameTime-path t u h))) (λ h. h) (true-or-false (sameTime t u))
 
 -- a time between the first and the last is a signed 64-bit number
 pub time-fits : (t : ℤ) → leZ timeLeast t && leZ t timeMost ≡ true → mag t < 2 ^ 63

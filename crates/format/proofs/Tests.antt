@@ -1,5 +1,5 @@
 -- Tests that are joined, taken apart and built back; a test that every element of a list passes.
---   true-or-false, never, same-test   one test
+--   true-or-false, never              one test
 --   and-true, or-false                a conjunction that passes, a disjunction that fails
 --   both-left, both-right, both-true  the parts of a conjunction
 --   every-at, every-imply             of an element; another test that follows
@@ -28,12 +28,6 @@ and-true false b = (λ e. (e, cc), λ h. h .0)
 pub or-false : (a b : Bool) → (a || b ≡ false) ↔ ((a ≡ false) × (b ≡ false))
 or-false true b = (λ e. (e, cc), λ h. h .0)
 or-false false b = (λ e. (refl, e), λ h. h .1)
-
--- two tests that fail together are equal
-pub same-test : (a b : Bool) → (a ≡ false) ↔ (b ≡ false) → a ≡ b
-same-test true true h = refl
-same-test true false h = h .1 refl
-same-test false b h = sym (h .0 refl)
 
 pub both-left : (a b : Bool) → a && b ≡ true → a ≡ true
 both-left a b e = and-true a b .0 e .0

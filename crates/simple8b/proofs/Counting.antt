@@ -10,7 +10,8 @@ use lib.ListN.{length, take, drop, length-append, length-drop, drop-of-length-le
 use lib.Seq.{drop-drop}
 use Rattle.format.specs.Bytes.{bigEndian}
 use Rattle.format.specs.Simple8b.{wordNumbers, wordsNumbers}
-use Rattle.section_laws.proofs.PackedWords.{wordNumbers-length, wordsNumbers-next}
+use Rattle.section_laws.proofs.OneWord.{wordNumbers-length}
+use Rattle.section_laws.proofs.PackedWords.{wordsNumbers-next}
 use Rattle.simple8b.specs.declared.Selector.{Selector}
 use Rattle.simple8b.specs.Selectors.{selectorOf}
 

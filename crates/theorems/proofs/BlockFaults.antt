@@ -31,7 +31,8 @@ use Rattle.acceptance.proofs.Times.{times-read, read-times}
 use Rattle.acceptance.proofs.Blocks.{values-read, read-values}
 use Rattle.theorems.specs.Faults.{Unless, UnlessSome, endsFault, valuesFault, timesFault, bodyFault, blockFault, blocksFault, seriesFault}
 use Rattle.theorems.proofs.Steps.{Exact, ok-exactly, leb-exactly, eqb-exactly, both-exactly, tested, require-exactly, require-exactly₂, some-exactly, then-exactly, after, within}
-use Rattle.theorems.proofs.SectionRefusals.{only-varint, only-times, only-values}
+use Rattle.format.proofs.Results.{only-varint}
+use Rattle.theorems.proofs.SectionRefusals.{only-times, only-values}
 
 -- ---- a block
 

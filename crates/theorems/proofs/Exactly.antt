@@ -24,11 +24,11 @@ use Rattle.format.specs.Writer.{writerImage}
 use Rattle.format.specs.Merge.{merge, kindsClash}
 use Rattle.format.specs.Acts.{checkResult, findAnswer, readBlockResult, readPointResult, fitted, imageResult, writeResult, unrollResult, mergeResult}
 use Rattle.format.proofs.AllBelow.{below-take, below-drop}
-use Rattle.format.proofs.Results.{ok-path, refused-not}
-use Rattle.roll.proofs.RollRefusals.{Only, roll-refused}
+use Rattle.format.proofs.Results.{ok-path, refused-not, Only, only-choice}
+use Rattle.roll.proofs.RollRefusals.{roll-refused}
 use Rattle.theorems.specs.Faults.{Unless, nothing, blockFault, indexFault, seriesFault, fault}
 use Rattle.theorems.specs.Exactly.{searchFault, findFault, oneBlockFault, readBlockFault, readPointFault, imageFault, writeFault, unrollFault, mergedFault, mergeFault, Exactly}
-use Rattle.theorems.proofs.Steps.{Exact, Refuses, ok-exactly, leb-exactly, both-exactly, require-exactly, some-exactly, bind-exactly, after, within, only-choice, only-number}
+use Rattle.theorems.proofs.Steps.{Exact, Refuses, ok-exactly, leb-exactly, both-exactly, require-exactly, some-exactly, bind-exactly, after, within, only-number}
 use Rattle.theorems.proofs.IndexFaults.{index-exactly}
 use Rattle.theorems.proofs.BlockFaults.{block-exactly, series-exactly}
 use Rattle.theorems.proofs.Searches.{finds}

@@ -2,7 +2,7 @@
 use Prim.Native.Nat.{ℕ, zero, suc, _+_, _*_}
 use mathlib.Core.Path.{_≡_, refl, ap, _∙_}
 use mathlib.Core.Logic.{_↔_}
-use mathlib.Core.Bool.{Bool, true, false, _&&_}
+use mathlib.Core.Bool.{Bool, true, _&&_}
 use mathlib.Core.List.{List, [], _∷_}
 use mathlib.Core.Option.{Option, none, some}
 use lib.ListN.{length, take, drop, getD}
@@ -10,19 +10,17 @@ use lib.IntN.{ℤ}
 use lib.Signed.{leZ}
 use lib.Dec.{leb, eqb}
 use Rattle.format.specs.declared.Kind.{Kind}
-use Rattle.format.specs.declared.Kind.the-variants.{Integer, Boolean}
 use Rattle.format.specs.declared.Entry.{Entry}
 use Rattle.format.specs.declared.Refusal.the-variants.{ImageLength, Magic, Version, IndexStart, EntryPastIndex, KeyLength, UnknownKind, NoBlocks, KeyOrder, TimeOrder, BlockPlace}
 use Rattle.format.specs.Limits.{imageLeast, imageMost, headerSize, keyMost}
-use Rattle.format.specs.Choice.{if_then_else_, sameList}
-use Rattle.format.specs.Refusals.{Result, ok, refused, _>>=_}
+use Rattle.format.specs.Choice.{sameList}
+use Rattle.format.specs.Refusals.{Result, _>>=_}
 use Rattle.format.specs.Kinds.{readKind}
 use Rattle.format.specs.KeyOrder.{keyFits, keyBefore}
 use Rattle.format.specs.Index.{BlockSpan, blockSpan, spanAfter, entrySize, keyHeadSize, lengthField, keyField, kindField, countField, entryFrom, aboveMax, checkEntry, readEntries, readKey, keyExtent, noKeys, readKeys}
 use Rattle.format.specs.File.{magic, version, footerPlace, indexStart, indexBytes, checkFrame, readIndex}
-use Rattle.format.proofs.KindBytes.{kind-back, kind-unique}
+use Rattle.format.proofs.KindBytes.{kind-back, kind-unique, only-kind}
 use Rattle.format.proofs.Orders.{sameList-refl, sameList-path}
-use Rattle.roll.proofs.RollRefusals.{Only}
 use Rattle.theorems.specs.Faults.{frameFault, entryFault, entriesFault, keyFault, endFault, keysFault, indexFault}
 use Rattle.theorems.proofs.Steps.{Exact, ok-exactly, leb-exactly, eqb-exactly, both-exactly, require-exactly, require-exactly₂, some-exactly, bind-exactly, after}
 
@@ -36,15 +34,6 @@ same t = (λ e. e, λ e. e)
 -- three rules
 flat : {T P Q R : Type 0} → T ↔ ((P × Q) × R) → T ↔ (P × Q × R)
 flat h = (λ t. let x = h .0 t in (x .0 .0, x .0 .1, x .1), λ (p, q, r). h .1 ((p, q), r))
-
--- a kind is refused as 7 alone
-only-kind : (place b : ℕ) → Only UnknownKind (readKind UnknownKind place b)
-only-kind place b = go (eqb b 1) (eqb b 2)
-  where
-    go : (t u : Bool) → Only UnknownKind (if t then ok Integer else if u then ok Boolean else refused UnknownKind place)
-    go true u = tt
-    go false true = tt
-    go false false = refl
 
 pub frame-exactly : {B : Type 0} (image : List ℕ) (g : Unit {0} → Result B) {later : ℕ → Type 0} → Exact (g tt) later
     → Exact (checkFrame image >>= g) (frameFault image later)
@@ -89,7 +78,7 @@ key-exactly blocks at before bs =
     (require-exactly KeyLength at (keyFits n) _ (both-exactly (leb-exactly 1 n) (leb-exactly n keyMost))
     (require-exactly EntryPastIndex at (leb (keyHeadSize n) (length bs)) _ (leb-exactly (keyHeadSize n) (length bs))
     (require-exactly KeyOrder (at + 2) (keyBefore before (keyField bs)) _ (same _)
-    (some-exactly UnknownKind (λ k. k) _ _ (readKind UnknownKind (at + 2 + n) b) _ (only-kind (at + 2 + n) b)
+    (some-exactly UnknownKind (λ k. k) _ _ (readKind UnknownKind (at + 2 + n) b) _ (only-kind UnknownKind (at + 2 + n) b)
     (λ kind e. kind-unique UnknownKind (at + 2 + n) b kind e)
     (λ kind e. (kind, ap (readKind UnknownKind (at + 2 + n)) e ∙ kind-back UnknownKind (at + 2 + n) kind, refl))
     (λ kind e. require-exactly NoBlocks (at + 3 + n) (leb 1 c) _ (leb-exactly 1 c)

@@ -20,7 +20,8 @@ use Rattle.format.specs.Acts.{imageResult, writeResult, decimalLine, programWri
 use Rattle.format.proofs.Cases.{below-or}
 use Rattle.acceptance.proofs.Accepted.{keeps-exactly}
 use Rattle.file_laws.proofs.Sizes.{image-most}
-use Rattle.roll.proofs.RollRefusals.{Only, roll-refused}
+use Rattle.format.proofs.Results.{Only}
+use Rattle.roll.proofs.RollRefusals.{roll-refused}
 use Rattle.roll.proofs.Unique.{roll-unique}
 use Rattle.roll.proofs.Good.{roll-good}
 use Rattle.theorems.specs.Files.{Accepted, OurFile, UnrollGives}

@@ -1,38 +1,26 @@
--- A number and a section are refused in one way each: a broken varint as its reader says, timestamps as 14, values as 15.
-use Prim.Native.Nat.{ℕ, _+_, _-_, _*_, _/_, _%_, _^_}
+-- A section is refused in one way: timestamps as 14, values as 15.
+use Prim.Native.Nat.{ℕ, _+_, _-_, _/_, _%_}
 use mathlib.Core.Path.{refl}
 use mathlib.Core.Bool.{_&&_}
 use mathlib.Core.List.{List, [], _∷_}
 use lib.ListN.{length, take, drop}
 use lib.Signed.{leZ}
-use lib.Dec.{leb, ltb, eqb}
+use lib.Dec.{leb, eqb}
 use Rattle.format.specs.declared.Kind.{Kind}
 use Rattle.format.specs.declared.Kind.the-variants.{Integer, Boolean}
-use Rattle.format.specs.declared.Refusal.{Refusal}
 use Rattle.format.specs.declared.Refusal.the-variants.{Timestamps, Values}
 use Rattle.format.specs.Limits.{readBlockMost, exponentMost, timeMost}
 use Rattle.format.specs.Choice.{every, isEmpty}
 use Rattle.format.specs.Bytes.{bigEndian}
 use Rattle.format.specs.Signed.{signed}
-use Rattle.format.specs.Varint.{readVarint, readGroups}
+use Rattle.format.specs.Varint.{readVarint}
 use Rattle.format.specs.Simple8b.{wordsOpen}
 use Rattle.format.specs.Form.{Form, raw, packed, repeated, unknown, formOf}
 use Rattle.format.specs.Timestamps.{readDifferences, timesFrom, timesOf, readTimes}
 use Rattle.format.specs.Integers.{readStored, readIntegers}
 use Rattle.format.specs.Booleans.{bitsOfBytes, bitmapSize, readBooleans}
 use Rattle.format.specs.Block.{readValues}
-use Rattle.roll.proofs.RollRefusals.{Only}
-use Rattle.theorems.proofs.Steps.{only-bind, only-require, only-choice}
-
-only-groups : (q : Refusal) (i low at : ℕ) (bs : List ℕ) → Only q (readGroups q i low at bs)
-unfolding readGroups
-only-groups q i low at [] = refl
-only-groups q i low at (b ∷ bs) =
-    let more = only-groups q (i + 1) (low + (b - 128) * 128 ^ i) (at + 1) bs in
-    only-choice q (eqb i 9 && ltb 1 b) _ _ refl (only-choice q (eqb b 0 && ltb 0 i) _ _ refl (only-choice q (ltb b 128) _ _ tt more))
-
-pub only-varint : (q : Refusal) (at : ℕ) (bs : List ℕ) → Only q (readVarint q at bs)
-only-varint q at bs = only-groups q 0 0 at bs
+use Rattle.format.proofs.Results.{Only, only-bind, only-require, only-varint}
 
 only-differences : (form : Form) (e section at : ℕ) (bs : List ℕ) → Only Timestamps (readDifferences form e section at bs)
 unfolding readDifferences

@@ -1,11 +1,10 @@
 -- Steps of a reader and the fault that each refuses: a test that is a rule, a step that gives something, and what follows.
 --   Refuses r n          the result is refused with the number n
 --   Exact r F            exactly where F holds of n
---   Only q r             a refusal of the result, if it is one, is q
 --   require-exactly, require-exactly₂, some-exactly   a step and what follows it
 --   bind-exactly, then-exactly   a step or what follows
 --   after, within        a last step that is not refused; a step within a step
---   only-bind, only-require, only-choice, only-number   steps that are refused in one way
+--   only-number          the number of a step that is refused in one way
 --   leb-exactly, eqb-exactly, both-exactly            tests that are rules
 use Prim.Native.Nat.{ℕ, _≤_}
 use mathlib.Core.Path.{_≡_, refl, sym, ap, subst, _∙_}
@@ -15,12 +14,10 @@ use native.Mathlib.Omega.{arith}
 use lib.Dec.{leb, eqb}
 use borrow.Author.Tests.{leb-true, le-leb, eqb-true, eq-eqb}
 use Rattle.format.specs.declared.Refusal.{Refusal}
-use Rattle.format.specs.Choice.{if_then_else_}
 use Rattle.format.specs.Refusals.{Result, ok, refused, _>>=_, require, refuses, refusalNumber, answerOf}
 use Rattle.format.proofs.Answers.{refuses-path}
-use Rattle.format.proofs.Results.{refused-not, ok-path}
+use Rattle.format.proofs.Results.{refused-not, ok-path, Only}
 use Rattle.format.proofs.Tests.{and-true}
-use Rattle.roll.proofs.RollRefusals.{Only}
 use Rattle.theorems.specs.Faults.{Unless, UnlessSome, nothing}
 
 abbrev pub Refuses : {A : Type 0} → Result A → ℕ → Type 0
@@ -132,22 +129,6 @@ module _ {A B C : Type 0} where
   pub within : (a : Result A) (f : A → Result B) (g : B → Result C) {F : ℕ → Type 0} → Exact (a >>= λ x. f x >>= g) F → Exact ((a >>= f) >>= g) F
   within (ok x) f g h = h
   within (refused r place) f g h = h
-
--- ---- a step that is refused in one way
-
-module _ {A B : Type 0} (q : Refusal) where
-  pub only-bind : (a : Result A) (f : A → Result B) → Only q a → ((x : A) → Only q (f x)) → Only q (a >>= f)
-  only-bind (ok x) f h k = k x
-  only-bind (refused r place) f h k = h
-
-module _ {B : Type 0} (q : Refusal) where
-  pub only-require : (t : Bool) (place : ℕ) (f : Unit {0} → Result B) → Only q (f tt) → Only q (require t q place >>= f)
-  only-require true place f k = k
-  only-require false place f k = refl
-
-  pub only-choice : (t : Bool) (a b : Result B) → Only q a → Only q b → Only q (if t then a else b)
-  only-choice true a b h k = h
-  only-choice false a b h k = k
 
 -- the number of a refusal
 pub only-number : {A : Type 0} (q : Refusal) (r : Result A) → Only q r → (n : ℕ) → Refuses r n → n ≡ refusalNumber q
