@@ -10,8 +10,10 @@ use Rattle.format.specs.declared.Refusal.the-variants.{Timestamps, Values}
 use Rattle.format.specs.Timestamps.{readTimes}
 use Rattle.format.specs.Block.{readValues}
 use Rattle.format.proofs.Parts.{part-length}
+use Rattle.timestamps.specs.declared.TimesRead.the-variants.{Count}
+use Rattle.timestamps.specs.Reading.{timesAnswer}
 use Rattle.block.specs.Answers.{timesPlace, valuesPlace, valuesAnswer, ValuesLaid}
-use Rattle.block.proofs.Sections.{TimesAre, BrokenAt, times-count, times-broken, times-few, values-read, values-broken}
+use Rattle.block.proofs.Sections.{TimesAre, BrokenAt, times-count, times-broken, times-spare, times-few, values-read, values-over, values-broken}
 use Rattle.block.proofs.Parts.{times-refused, values-refused, both-read}
 use Rattle.block.proofs.read_parts.Statement.{statement}
 use Rattle.block.proofs.read_parts.Tie as tie
@@ -55,28 +57,33 @@ enum-told c = search needs
 times-place-requires : tie.Need-times-place-requires
 times-place-requires c κs = search needs
 
-add-t19 : tie.Need-add-t19
-add-t19 c = search needs
+add-t21 : tie.Need-add-t21
+add-t21 c = search needs
 
 -- the timestamps are broken
-no-times : (c : tie.After-times-place)
-    → BrokenAt Timestamps (timesPlaceAt (c .before .before .before .before .before .before .before .before .before)) (c .times-place .result) (length (timesPart (c .before .before .before .before .before .before .before .before .before))) (readTimes (timesPlaceAt (c .before .before .before .before .before .before .before .before .before)) (timesPart (c .before .before .before .before .before .before .before .before .before)))
+no-times : (c : tie.After-times-place) →
+    let s = c .before .before .before .before .before .before .before .before .before .before .before .before in
+    BrokenAt Timestamps (timesPlaceAt s) (c .times-place .result) (length (timesPart s)) (readTimes (timesPlaceAt s) (timesPart s))
 no-times c =
+    let s = c .before .before .before .before .before .before .before .before .before .before .before .before in
     let told = c .before .enum-told .given in
     let here : c .times-place .result ≡ told .0 .0 = c .times-place .ensures ∙ ap timesPlace (told .1) in
-    times-broken (timesPlaceAt (c .before .before .before .before .before .before .before .before .before)) (c .times-place .result) (timesPart (c .before .before .before .before .before .before .before .before .before)) (rw here (sym (told .1) ∙ c .before .before .before .before .read .ensures .0))
+    times-broken (timesPlaceAt s) (c .times-place .result) (timesPart s) (rw here (sym (told .1) ∙ c .before .before .before .before .before .before .read .ensures .0))
 
-add-t20 : tie.Need-add-t20
-add-t20 c =
-    let s = c .before .before .before .before .before .before .before .before .before in
+add-t22 : tie.Need-add-t22
+add-t22 c =
+    let s = c .before .before .before .before .before .before .before .before .before .before .before .before in
     omega (arith, no-times c .within, part-length (s .args .block .now) (s .args .next) (s .args .split) (s .pre .1), s .pre)
 
 same-length : tie.Need-same-length
 same-length c = search needs
 
+same-length-2 : tie.Need-same-length-2
+same-length-2 c = search needs
+
 returns : tie.Need-returns
 returns c =
-    let a = c .before .before .before .before .before .before .before .before .before .args in
+    let a = c .before .before .before .before .before .before .before .before .before .before .before .before .args in
     times-refused (a .kind) (a .offset) (a .next) (a .split) (a .block .now) _ _ _ _ (c .times-place .result) _ (no-times c)
 
 sub-read-values : tie.Need-sub-read-values
@@ -91,18 +98,28 @@ part-read-values-end c = search needs
 -- the timestamps are read
 module _ (c : tie.After-known-told) where
   abbrev start : tie.Start
-  start = c .before .before .before .before .before .before .before .before .before
+  start = c .before .before .before .before .before .before .before .before .before .before .before .before
 
   abbrev n : ℕ
   n = c .before .read2 .given .0 .0
 
-  stamps : TimesAre (timesPlaceAt start) n (timesPart start) (start .args .times .now) (c .before .before .before .before .read .last .1 .0)
-  stamps = times-count (timesPlaceAt start) n (timesPart start) (start .args .times .now) (c .before .before .before .before .read .last .1 .0) (sym (c .before .read2 .given .1) ∙ c .before .before .before .before .read .ensures .0) (c .before .before .before .before .read .ensures .1)
+  counted : Count n ≡ timesAnswer (readTimes 0 (timesPart start))
+  counted = sym (c .before .read2 .given .1) ∙ c .before .before .before .before .before .before .read .ensures .0
+
+  stamps : TimesAre (timesPlaceAt start) n (timesPart start) (start .args .times .now) (c .before .before .before .before .before .before .read .last .1 .0)
+  stamps = times-count (timesPlaceAt start) n (timesPart start) (start .args .times .now) (c .before .before .before .before .before .before .read .last .1 .0) counted (c .before .before .before .before .before .before .read .ensures .1 .0)
+
+  -- the values as the timestamps left them
+  abbrev lent : List ℕ
+  lent = c .before .before .before .before .before .before .read .last .1 .1 .0
+
+  spare : drop n lent ≡ drop n (start .args .values .now)
+  spare = times-spare n (timesPart start) (start .args .values .now) lent counted (c .before .before .before .before .before .before .read .ensures .1 .1)
 
 read-values-requires : tie.Need-read-values-requires
 read-values-requires c κs =
     let k = c .before .before in
-    omega (arith, times-few (timesPlaceAt (start k)) (timesPart (start k)) (stamps k .times) (stamps k .read) .few, stamps k .count, start k .pre)
+    omega (arith, times-few (timesPlaceAt (start k)) (timesPart (start k)) (stamps k .times) (stamps k .read) .few, stamps k .count, start k .pre, c .before .before .before .before .before .before .before .before .read .kept)
 
 enum-told-2 : tie.Need-enum-told-2
 enum-told-2 c = search needs
@@ -113,8 +130,8 @@ enum-told-3 c = search needs
 values-place-requires : tie.Need-values-place-requires
 values-place-requires c κs = search needs
 
-add-t29 : tie.Need-add-t29
-add-t29 c = search needs
+add-t31 : tie.Need-add-t31
+add-t31 c = search needs
 
 -- the values, by the reader's answer
 module _ (c : tie.After-read-values) where
@@ -127,9 +144,9 @@ module _ (c : tie.After-read-values) where
   told : c .read-values .result ≡ valuesAnswer (readValues (from .args .kind) (n known) 0 (valuesPart from))
   told = c .read-values .ensures .0 ∙ rw (values-part from)
 
-  cells : ValuesLaid (readValues (from .args .kind) (n known) 0 (valuesPart from)) (from .args .values .now) (c .read-values .last .1 .1 .1 .0)
+  cells : ValuesLaid (readValues (from .args .kind) (n known) 0 (valuesPart from)) (lent known) (c .read-values .last .1 .1 .1 .0)
   cells =
-      subst (λ (l : List ℕ). ValuesLaid (readValues (from .args .kind) (n known) 0 l) (from .args .values .now) (c .read-values .last .1 .1 .1 .0))
+      subst (λ (l : List ℕ). ValuesLaid (readValues (from .args .kind) (n known) 0 l) (lent known) (c .read-values .last .1 .1 .1 .0))
       (values-part from) (c .read-values .ensures .1)
 
 -- the values are broken
@@ -143,14 +160,14 @@ no-values c =
     let here : c .values-place .result ≡ told3 .0 .0 = c .values-place .ensures ∙ ap valuesPlace (told3 .1) in
     values-broken (s .args .kind) (valuesPlaceAt s) (n (known r)) (valuesPart s) (c .values-place .result) (rw here (sym (told3 .1) ∙ told r))
 
-add-t30 : tie.Need-add-t30
-add-t30 c = let s = from (c .before .before .before .before .before) in omega (arith, no-values c .within, length-drop (s .args .split) (s .args .block .now), s .pre)
-
-same-length-2 : tie.Need-same-length-2
-same-length-2 c = search needs
+add-t32 : tie.Need-add-t32
+add-t32 c = let s = from (c .before .before .before .before .before) in omega (arith, no-values c .within, length-drop (s .args .split) (s .args .block .now), s .pre)
 
 same-length-3 : tie.Need-same-length-3
 same-length-3 c = search needs
+
+same-length-4 : tie.Need-same-length-4
+same-length-4 c = search needs
 
 returns-2 : tie.Need-returns-2
 returns-2 c =
@@ -158,18 +175,22 @@ returns-2 c =
     let a = from r .args in
     values-refused (a .kind) (a .offset) (a .next) (a .split) (a .block .now) _ _ _ _ (n (known r)) (stamps (known r)) (c .values-place .result) _ (no-values c)
 
-same-length-4 : tie.Need-same-length-4
-same-length-4 c = search needs
-
 same-length-5 : tie.Need-same-length-5
 same-length-5 c = search needs
+
+same-length-6 : tie.Need-same-length-6
+same-length-6 c = search needs
 
 returns-3 : tie.Need-returns-3
 returns-3 c =
     let r = c .before .before .before .before in
+    let k = known r in
     let a = from r .args in
-    both-read (a .kind) (a .offset) (a .next) (a .split) (a .block .now) _ _ _ _ (n (known r)) (stamps (known r))
-    (values-read (a .kind) (valuesPlaceAt (from r)) (n (known r)) (valuesPart (from r)) (a .values .now) (r .read-values .last .1 .1 .1 .0) (sym (c .enum-told2 .given .1) ∙ told r) (cells r))
+    let place = valuesPlaceAt (from r) in
+    let laid = r .read-values .last .1 .1 .1 .0 in
+    let read = values-read (a .kind) place (n k) (valuesPart (from r)) (lent k) laid (sym (c .enum-told2 .given .1) ∙ told r) (cells r) in
+    both-read (a .kind) (a .offset) (a .next) (a .split) (a .block .now) _ _ _ _ (n k) (stamps k)
+    (values-over (a .kind) place (n k) (valuesPart (from r)) (a .values .now) (lent k) laid (spare k) read)
 
 pub read-parts-spec : {M : Type 1} → statement M
 read-parts-spec =
@@ -182,9 +203,10 @@ read-parts-spec =
     enum-known-read
     enum-told
     times-place-requires
-    add-t19
-    add-t20
+    add-t21
+    add-t22
     same-length
+    same-length-2
     returns
     sub-read-values
     part-read-values-start
@@ -193,11 +215,11 @@ read-parts-spec =
     enum-told-2
     enum-told-3
     values-place-requires
-    add-t29
-    add-t30
-    same-length-2
+    add-t31
+    add-t32
     same-length-3
-    returns-2
     same-length-4
+    returns-2
     same-length-5
+    same-length-6
     returns-3)
