@@ -1,4 +1,5 @@
-// The points of two decoded blocks merged into the fill, on plain numbers and slices. Floor 5: it stands on merging.
+// The points of two decoded blocks merged into the fill, on plain numbers and slices. Floor 7: it stands on builder, whose fill it
+// is.
 ghost use mathlib.Core.Path.{_≡_};
 ghost use Prim.Native.Nat.{_≤_, _<_};
 ghost use lib.ListN.{length, getD, set};
