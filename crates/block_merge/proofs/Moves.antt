@@ -1,5 +1,6 @@
 -- Points go from the blocks into the fill.
 --   cells-next, cells-none   the first point of some cells, and none
+--   laid-older, laid-newer, laid-both   the point that is laid, by the tests
 --   merge-next               the next point of a merge, by which time is earlier
 --   moved-none, moved-on, next-moved   no point, two moves one after the other, and one point
 --   copied-none, copied-next           no point of one block, and one point more
@@ -73,6 +74,29 @@ module _ (a : ℤ) (v : ℕ) (b : ℤ) (w : ℕ) (ps qs : List Point) where
 step-most : (waits : Bool) → step waits ≤ 1
 step-most true = omega arith
 step-most false = omega arith
+
+-- the point that is laid, by the two tests
+module _ (olderTimes : List ℤ) (olderValues : List ℕ) (i : ℕ) (newerTimes : List ℤ) (newerValues : List ℕ) (j : ℕ) (times : List ℤ) (values : List ℕ) (n : ℕ) where
+  abbrev first : ℤ
+  first = getD olderTimes i (pos 0)
+
+  abbrev second : ℤ
+  second = getD newerTimes j (pos 0)
+
+  pub laid-older : ltZ first second ≡ true
+      → NextLaid olderTimes olderValues i newerTimes newerValues j times values n (i + 1) j (set times n first) (set values n (getD olderValues i 0))
+  laid-older h =
+      let other = not-both first second h in
+      record { older = rw other; newer = rw h (omega arith); time = rw h; value = rw h }
+
+  module _ (h : ltZ first second ≡ false) where
+    pub laid-newer : ltZ second first ≡ true
+        → NextLaid olderTimes olderValues i newerTimes newerValues j times values n i (j + 1) (set times n second) (set values n (getD newerValues j 0))
+    laid-newer k = record { older = rw k (omega arith); newer = rw h; time = rw h; value = rw h }
+
+    pub laid-both : ltZ second first ≡ false
+        → NextLaid olderTimes olderValues i newerTimes newerValues j times values n (i + 1) (j + 1) (set times n second) (set values n (getD newerValues j 0))
+    laid-both k = record { older = rw k; newer = rw h; time = rw h; value = rw h }
 
 -- no side passes more than one point
 pub next-most : {olderTimes : List ℤ} {olderValues : List ℕ} {i : ℕ} {newerTimes : List ℤ} {newerValues : List ℕ} {j : ℕ}

@@ -1,20 +1,17 @@
-// The points of two decoded blocks merged into the fill, on plain numbers and slices. Floor 5: it stands on merging.
+// The points of two decoded blocks merged into the fill of the builder, on plain numbers and slices. Floor 7: it stands
+// on builder.
 ghost use mathlib.Core.Path.{_≡_};
 ghost use Prim.Native.Nat.{_≤_, _<_};
-ghost use lib.ListN.{length, getD, set};
-ghost use lib.IntN.{pos};
-ghost use lib.Signed.{ltZ};
+ghost use lib.ListN.{length};
 ghost use Rattle.format.specs.Limits.{writerBlockMost};
-ghost use Rattle.format.specs.Choice.{if_then_else_};
-ghost use Rattle.block_merge.specs.Cells.{step, NextLaid, Within, RunMoved, Least, BlocksMoved, Copied, Grown};
+ghost use Rattle.block_merge.specs.Cells.{NextLaid, Within, RunMoved, Least, BlocksMoved, Copied, Grown};
+use format::WRITER_BLOCK_MOST;
 
 // Which points come next, of the older block and of the newer.
 struct Next {
     older: usize,
     newer: usize,
 }
-
-use format::WRITER_BLOCK_MOST;
 
 // Where a merge stands: the next points of both blocks, and how many points the fill has.
 pub struct Merged {
@@ -23,28 +20,8 @@ pub struct Merged {
     pub filled: usize,
 }
 
-// 1 for a side whose point is passed, 0 for one that waits.
-fn passed(waits: bool) -> usize
-    ensures { λ r. ⌜ (r ≡ step waits) × (r ≤ 1) ⌝ }
-{
-    if waits { 0 } else { 1 }
-}
-
-// The time that is laid.
-fn laid_time(older_first: bool, older: i64, newer: i64) -> i64
-    ensures { λ r. ⌜ r ≡ (if «older_first» then older else newer) ⌝ }
-{
-    if older_first { older } else { newer }
-}
-
-// The value that is laid.
-fn laid_value(older_first: bool, older: u64, newer: u64) -> u64
-    ensures { λ r. ⌜ r ≡ (if «older_first» then older else newer) ⌝ }
-{
-    if older_first { older } else { newer }
-}
-
-// Lays the earlier of the points at `i` and `j`, and passes it; of two at one time the newer's, and passes both.
+// Lays the earlier of the points at `i` and `j`, and passes it; of two at one time the newer's, and passes both. It
+// branches: points of one side come in runs, and a branch that is foreseen costs less than a chain of selections.
 fn lay_next(
     older_times: &[i64],
     older_values: &[u64],
@@ -61,14 +38,27 @@ fn lay_next(
 {
     let first = older_times[i];
     let second = newer_times[j];
-    let older_first = first < second;
-    let newer_first = second < first;
-    let time = laid_time(older_first, first, second);
-    times[n] = time;
-    values[n] = laid_value(older_first, older_values[i], newer_values[j]);
+    if first < second {
+        times[n] = first;
+        values[n] = older_values[i];
+        return Next {
+            older: i + 1,
+            newer: j,
+        };
+    }
+    times[n] = second;
+    if second < first {
+        values[n] = newer_values[j];
+        return Next {
+            older: i,
+            newer: j + 1,
+        };
+    }
+    let both = newer_values[j];
+    values[n] = both;
     Next {
-        older: i + passed(newer_first),
-        newer: j + passed(older_first),
+        older: i + 1,
+        newer: j + 1,
     }
 }
 

@@ -1,4 +1,4 @@
-// The keys of two images, taken in turn: which is next, and whether one has two kinds. Floor 6: it stands on feed.
+// The keys of two images, taken in turn: which is next, and whether one has two kinds. Floor 7: it stands on feed and keys.
 ghost use mathlib.Core.Path.{_≡_};
 ghost use mathlib.Core.Bool.{true, false};
 ghost use Prim.Native.Nat.{_≤_};

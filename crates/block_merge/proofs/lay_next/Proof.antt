@@ -1,12 +1,10 @@
--- `lay_next` meets its contract: the two tests, and a store to each array.
+-- `lay_next` meets its contract: by its two tests.
 use borrow.Author.Needs.{needs}
-use Prim.Native.Nat.{ℕ, _+_}
-use mathlib.Core.Path.{_≡_, ap, _∙_}
-use native.Mathlib.Omega.{arith}
 use lib.IntN.{pos}
-use lib.ListN.{getD, set}
+use lib.ListN.{getD}
 use mir.Syntax.{w64}
 use mir.ValLaws.{toZ-ofZ}
+use Rattle.block_merge.proofs.Moves.{laid-older, laid-newer, laid-both}
 use Rattle.block_merge.proofs.lay_next.Statement.{statement}
 use Rattle.block_merge.proofs.lay_next.Tie as tie
 
@@ -22,47 +20,26 @@ mul-second c = search needs
 shared-slice-copy-out-second : tie.Need-shared-slice-copy-out-second
 shared-slice-copy-out-second c = search needs
 
-laid-time-requires : tie.Need-laid-time-requires
-laid-time-requires c κs = search needs
+mul-first-2 : tie.Need-mul-first-2
+mul-first-2 c = search needs
 
-mul-time : tie.Need-mul-time
-mul-time c = search needs
-
-slice-set-from-time : tie.Need-slice-set-from-time
-slice-set-from-time c = search needs
-
-mul-laid-value : tie.Need-mul-laid-value
-mul-laid-value c = search needs
-
-shared-slice-read-laid-value : tie.Need-shared-slice-read-laid-value
-shared-slice-read-laid-value c = search needs
-
-mul-laid-value-2 : tie.Need-mul-laid-value-2
-mul-laid-value-2 c = search needs
-
-shared-slice-read-laid-value-2 : tie.Need-shared-slice-read-laid-value-2
-shared-slice-read-laid-value-2 c = search needs
-
-laid-value-requires : tie.Need-laid-value-requires
-laid-value-requires c κs = search needs
+slice-set-from-first : tie.Need-slice-set-from-first
+slice-set-from-first c = search needs
 
 mul-values : tie.Need-mul-values
 mul-values c = search needs
 
+shared-slice-read-values : tie.Need-shared-slice-read-values
+shared-slice-read-values c = search needs
+
+mul-values-2 : tie.Need-mul-values-2
+mul-values-2 c = search needs
+
 slice-write-values : tie.Need-slice-write-values
 slice-write-values c = search needs
 
-passed-requires : tie.Need-passed-requires
-passed-requires c κs = search needs
-
-add-t26 : tie.Need-add-t26
-add-t26 c = omega (arith, c .passed .ensures .1)
-
-passed-requires-2 : tie.Need-passed-requires-2
-passed-requires-2 c κs = search needs
-
-add-t28 : tie.Need-add-t28
-add-t28 c = omega (arith, c .passed2 .ensures .1)
+add-t18 : tie.Need-add-t18
+add-t18 c = search needs
 
 same-length : tie.Need-same-length
 same-length c = search needs
@@ -72,20 +49,75 @@ same-length-2 c = search needs
 
 returns : tie.Need-returns
 returns c =
-    let p = c .before .before .before .before .before .before .before .before .before .before .before in
-    let a = p .args in
-    let x = getD (a .older-times .now) (a .i) (pos 0) in
-    let y = getD (a .newer-times .now) (a .j) (pos 0) in
-    let first = toZ-ofZ w64 x (record { sfits = c .before .before .before .before .before .before .before .first .given }) in
-    let second = toZ-ofZ w64 y (record { sfits = c .before .before .before .before .before .before .second .given }) in
-    let time = c .before .before .before .before .before .laid-time in
-    let kept = toZ-ofZ w64 (time .result) (record { sfits = omega (arith, time .ok) }) in
-    record {
-      older = ap (λ (k : ℕ). a .i + k) (rw (second, first) at (c .before .passed .ensures .0));
-      newer = ap (λ (k : ℕ). a .j + k) (rw (first, second) at (c .passed2 .ensures .0));
-      time = ap (set (a .times .now) (a .n)) (kept ∙ rw (first, second) at (time .ensures));
-      value = ap (set (a .values .now) (a .n)) (rw (first, second) at (c .before .before .laid-value .ensures));
-    }
+    let a = c .before .before .before .before .args in
+    let first = toZ-ofZ w64 (getD (a .older-times .now) (a .i) (pos 0)) (record { sfits = c .before .before .before .first .given }) in
+    let second = toZ-ofZ w64 (getD (a .newer-times .now) (a .j) (pos 0)) (record { sfits = c .before .before .second .given }) in
+    rw first (laid-older _ _ _ _ _ _ _ _ _ (rw (first, second) at (c .before .if1 .taken)))
+
+mul-second-2 : tie.Need-mul-second-2
+mul-second-2 c = search needs
+
+slice-set-from-second : tie.Need-slice-set-from-second
+slice-set-from-second c = search needs
+
+mul-values-3 : tie.Need-mul-values-3
+mul-values-3 c = search needs
+
+shared-slice-read-values-2 : tie.Need-shared-slice-read-values-2
+shared-slice-read-values-2 c = search needs
+
+mul-values-4 : tie.Need-mul-values-4
+mul-values-4 c = search needs
+
+slice-write-values-2 : tie.Need-slice-write-values-2
+slice-write-values-2 c = search needs
+
+add-t25 : tie.Need-add-t25
+add-t25 c = search needs
+
+same-length-3 : tie.Need-same-length-3
+same-length-3 c = search needs
+
+same-length-4 : tie.Need-same-length-4
+same-length-4 c = search needs
+
+returns-2 : tie.Need-returns-2
+returns-2 c =
+    let a = c .before .before .before .before .before .args in
+    let first = toZ-ofZ w64 (getD (a .older-times .now) (a .i) (pos 0)) (record { sfits = c .before .before .before .before .first .given }) in
+    let second = toZ-ofZ w64 (getD (a .newer-times .now) (a .j) (pos 0)) (record { sfits = c .before .before .before .second .given }) in
+    rw second (laid-newer _ _ _ _ _ _ _ _ _ (rw (first, second) at (c .before .before .if1 .left)) (rw (second, first) at (c .before .if2 .taken)))
+
+mul-both : tie.Need-mul-both
+mul-both c = search needs
+
+shared-slice-read-both : tie.Need-shared-slice-read-both
+shared-slice-read-both c = search needs
+
+mul-values-5 : tie.Need-mul-values-5
+mul-values-5 c = search needs
+
+slice-write-values-3 : tie.Need-slice-write-values-3
+slice-write-values-3 c = search needs
+
+add-t13 : tie.Need-add-t13
+add-t13 c = search needs
+
+add-t33 : tie.Need-add-t33
+add-t33 c = search needs
+
+same-length-5 : tie.Need-same-length-5
+same-length-5 c = search needs
+
+same-length-6 : tie.Need-same-length-6
+same-length-6 c = search needs
+
+returns-3 : tie.Need-returns-3
+returns-3 c =
+    let a = c .before .before .before .before .before .args in
+    let first = toZ-ofZ w64 (getD (a .older-times .now) (a .i) (pos 0)) (record { sfits = c .before .before .before .before .first .given }) in
+    let second = toZ-ofZ w64 (getD (a .newer-times .now) (a .j) (pos 0)) (record { sfits = c .before .before .before .second .given }) in
+    rw second (laid-both _ _ _ _ _ _ _ _ _ (rw (first, second) at (c .before .before .if1 .left)) (rw (second, first) at (c .before .if2 .left)))
 
 pub lay-next-spec : {M : Type 1} → statement M
 lay-next-spec =
@@ -95,20 +127,32 @@ lay-next-spec =
     shared-slice-copy-out-first
     mul-second
     shared-slice-copy-out-second
-    laid-time-requires
-    mul-time
-    slice-set-from-time
-    mul-laid-value
-    shared-slice-read-laid-value
-    mul-laid-value-2
-    shared-slice-read-laid-value-2
-    laid-value-requires
+    mul-first-2
+    slice-set-from-first
     mul-values
+    shared-slice-read-values
+    mul-values-2
     slice-write-values
-    passed-requires
-    add-t26
-    passed-requires-2
-    add-t28
+    add-t18
     same-length
     same-length-2
-    returns)
+    returns
+    mul-second-2
+    slice-set-from-second
+    mul-values-3
+    shared-slice-read-values-2
+    mul-values-4
+    slice-write-values-2
+    add-t25
+    same-length-3
+    same-length-4
+    returns-2
+    mul-both
+    shared-slice-read-both
+    mul-values-5
+    slice-write-values-3
+    add-t13
+    add-t33
+    same-length-5
+    same-length-6
+    returns-3)
