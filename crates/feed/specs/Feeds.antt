@@ -17,7 +17,8 @@ use lib.IntN.{ℤ}
 use lib.ListN.{take, drop}
 use Rattle.format.specs.declared.Entry.{Entry}
 use Rattle.format.specs.Limits.{readBlockMost}
-use Rattle.format.specs.Refusals.{Result, ok, refused}
+use Rattle.format.specs.Refusals.{Result, ok}
+pub use Rattle.format.specs.Refusals.{readOr}
 use Rattle.format.specs.Meaning.{Point, pointOf, Series, Meaning}
 use Rattle.format.specs.Block.{pointsFrom}
 use Rattle.format.specs.Index.{IndexKey}
@@ -28,11 +29,6 @@ use Rattle.feed.specs.declared.NextKey.{NextKey}
 use Rattle.feed.specs.declared.NextBlock.{NextBlock}
 use Rattle.feed.specs.declared.NextPoint.{NextPoint}
 use Rattle.index.specs.Frames.{indexPart}
-
--- what is read, or another value where it is refused
-abbrev pub readOr : {A : Type 0} → A → Result A → A
-readOr other (ok v) = v
-readOr other (refused r place) = other
 
 -- the open key
 unfoldable pub keyOf : List ℕ → Feed → List ℕ

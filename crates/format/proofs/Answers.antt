@@ -57,22 +57,11 @@ pub refusal-same : (r q : Refusal) → refusalNumber r ≡ refusalNumber q → r
 refusal-same r q e = sym (number-back r) ∙ ap refusalOf e ∙ number-back q
 
 module _ {A : Type 0} where
-  -- the value of an answer, or another; the number of an answer, or another
-  valueOf : A → Answer A → A
-  valueOf d (gives a) = a
-  valueOf d (refuses n) = d
-
-  numberOf : Answer A → ℕ
-  numberOf (gives a) = 0
-  numberOf (refuses n) = n
-
   pub gives-path : {a b : A} → gives a ≡ gives b → a ≡ b
-  unfolding valueOf
-  gives-path {a} {b} e = ap (valueOf a) e
+  gives-path e = cc
 
   pub refuses-path : {m n : ℕ} → _≡_ {A = Answer A} (refuses m) (refuses n) → m ≡ n
-  unfolding numberOf
-  refuses-path e = ap numberOf e
+  refuses-path e = cc
 
   -- an answer that gives, gives the value of its result
   pub answer-ok : (x : Result A) (a : A) → answerOf x ≡ gives a → x ≡ ok a

@@ -1,4 +1,4 @@
--- A part of a list, from place `from` up to place `to`: `take (to - from) (drop from xs)`.
+-- A part of a list, from place `from` up to place `to`: `take (to - from) (drop from xs)`, for which `part` stands.
 --   drop-take                          the same part, taken first
 --   part-whole, part-none, part-next   from the start, nothing, and the first element of a part
 --   part-drop, part-length             what is left of a part, and how long it is

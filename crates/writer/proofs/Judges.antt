@@ -17,11 +17,12 @@ use Rattle.format.specs.declared.Refusal.the-variants.{ShortBuffer, ImageTooLon
 use Rattle.format.specs.declared.Written.{Written}
 use Rattle.format.specs.Limits.{imageMost}
 use Rattle.format.specs.Bytes.{overwrite}
-use Rattle.format.specs.Refusals.{Result, ok, refused, answerOf}
+use Rattle.format.specs.Refusals.{Result, refused, answerOf}
 use Rattle.format.specs.Meaning.{Meaning}
 use Rattle.format.specs.Writer.{writerImage}
 use Rattle.format.specs.Acts.{laid, imageResult, writtenSays, sized}
 use Rattle.format.proofs.Cases.{below-or}
+use Rattle.format.proofs.Acts.{image-long, image-short, image-fits}
 use Rattle.builder.specs.Passes.{Near}
 use Rattle.writer.specs.Judging.{pastImage, judged}
 
@@ -72,18 +73,6 @@ module _ (m : Meaning) (out : List ℕ) where
   abbrev total : ℕ
   total = length (writerImage m)
 
-  too-long : imageMost < total → imageResult m out ≡ refused ImageTooLong 0
-  unfolding imageResult
-  too-long h = rw (lt-leb total imageMost h)
-
-  too-short : total ≤ imageMost → length out < total → imageResult m out ≡ refused ShortBuffer 0
-  unfolding imageResult
-  too-short h k = rw (le-leb total imageMost h, lt-leb total (length out) k)
-
-  fitting : total ≤ imageMost → total ≤ length out → imageResult m out ≡ ok (writerImage m)
-  unfolding imageResult
-  fitting h k = rw (le-leb total imageMost h, le-leb total (length out) k)
-
   -- the answer, and the buffer unless it is laid over
   pub record Answers (answer : Written) : Type 0 where
     pub says : writtenSays answer ≡ answerOf (sized (imageResult m out))
@@ -93,14 +82,14 @@ module _ (m : Meaning) (out : List ℕ) where
   pub judged-answers : Answers (judged total (length out))
   judged-answers =
       ⊎-elim
-      (λ (h : imageMost < total). refusing ImageTooLong (judged-long total (length out) h) (too-long h))
+      (λ (h : imageMost < total). refusing ImageTooLong (judged-long total (length out) h) (image-long m out h))
       (λ (h : total ≤ imageMost).
       ⊎-elim
-      (λ (k : length out < total). refusing ShortBuffer (judged-short total (length out) h k) (too-short h k))
+      (λ (k : length out < total). refusing ShortBuffer (judged-short total (length out) h k) (image-short m out h k))
       (λ (k : total ≤ length out). record {
-        says = ap writtenSays (judged-fits total (length out) h k) ∙ ap (λ (x : Result (List ℕ)). answerOf (sized x)) (sym (fitting h k));
+        says = ap writtenSays (judged-fits total (length out) h k) ∙ ap (λ (x : Result (List ℕ)). answerOf (sized x)) (sym (image-fits m out h k));
         left = λ r e. let f = judged-fits total (length out) h k in let w : _≡_ {A = ℕ} 0 1 = cc in absurd (omega arith);
-        laid-over = λ n e. (h, k, ap (λ (x : Result (List ℕ)). laid x out) (fitting h k));
+        laid-over = λ n e. (h, k, ap (λ (x : Result (List ℕ)). laid x out) (image-fits m out h k));
       })
       (below-or (length out) total))
       (below-or imageMost total)
