@@ -1,20 +1,21 @@
 -- Lists of numbers, one cell after the other: what the loops of this crate go by.
 --   repeated-next   one number more of a run
 --   words-next      one number of 8 bytes more
+--   front, past     what stands in the first cells, and past them
 --   equal-part      all of a part are equal to the first, which is equal to itself
 use Prim.Native.Nat.{ℕ, suc, _+_, _-_, _*_, _≤_, _<_}
-use mathlib.Core.Path.{_≡_, refl}
+use mathlib.Core.Path.{_≡_, refl, sym}
 use mathlib.Core.Logic.{⊎-elim}
 use mathlib.Core.List.{List, _∷_}
 use native.Mathlib.Omega.{arith}
 use lib.Dec.{eqb}
 use lib.ListN.{length, take, drop, getD, replicate}
-use lib.Seq.{drop-drop}
+use lib.Seq.{take-at, drop-append-seam, drop-drop}
 use borrow.Author.Tests.{eq-eqb}
 use Rattle.format.proofs.Cases.{below-or}
 use Rattle.format.proofs.Parts.{part-none, part-next}
 use Rattle.format.specs.Choice.{every, allEqual}
-use Rattle.format.specs.Bytes.{bigEndian, wordsOf}
+use Rattle.format.specs.Bytes.{bigEndian, wordsOf, overwrite}
 
 pub repeated-next : (i n x : ℕ) → i < n → replicate (n - i) x ≡ x ∷ replicate (n - (i + 1)) x
 repeated-next i n x h = let more : n - i ≡ suc (n - (i + 1)) = omega arith in rw more
@@ -34,3 +35,11 @@ equal-part xs from to inside =
     (λ (h : from < to). rw (part-next xs 0 from to h inside, eq-eqb (getD xs from 0) (getD xs from 0) refl))
     (λ (h : to ≤ from). rw (part-none xs from to h))
     (below-or from to)
+
+-- the numbers laid in the first cells
+pub front : (xs old new : List ℕ) (n : ℕ) → new ≡ overwrite xs old → n ≡ length xs → take n new ≡ xs
+front xs old new n e l = rw e (take-at xs (drop (length xs) old) n (sym l))
+
+-- past them nothing is changed
+pub past : (xs old new : List ℕ) (n : ℕ) → new ≡ overwrite xs old → n ≡ length xs → drop n new ≡ drop n old
+past xs old new n e l = rw (e, l) (drop-append-seam xs (drop (length xs) old))

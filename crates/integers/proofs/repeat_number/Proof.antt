@@ -1,7 +1,7 @@
 -- `integers::repeat_number` meets its contract: the values that are left, laid from i on, make what all of them make from the start.
 use borrow.Author.Needs.{needs}
 use native.Mathlib.Omega.{arith}
-use Prim.Native.Nat.{ℕ, suc, _+_, _-_, _≤_, _<_}
+use Prim.Native.Nat.{ℕ, _+_, _-_, _≤_, _<_}
 use mathlib.Core.Path.{_≡_, refl, sym, ap, _∙_}
 use mathlib.Core.List.{List, [], _∷_}
 use lib.ListN.{length, replicate, length-set}
@@ -9,6 +9,7 @@ use Rattle.format.specs.Bytes.{splice}
 use Rattle.format.specs.Signed.{wrapAdd}
 use Rattle.format.specs.Integers.{valueAfter, valuesFrom}
 use Rattle.format.proofs.Splices.{splice-nothing, splice-store}
+use Rattle.numbers.proofs.Cells.{repeated-next}
 use Rattle.integers.proofs.Parts.{first-laid}
 use Rattle.integers.proofs.repeat_number.Statement.{statement}
 use Rattle.integers.proofs.repeat_number.Tie as tie
@@ -20,10 +21,6 @@ Inv-loop first number n values₀ step value₀ i₀ values value i =
 
 abbrev μ-loop : tie.MeasureT-loop
 μ-loop first number n values₀ step value₀ i₀ values value i = n - i
-
--- a number is left
-one : (n i : ℕ) → i < n → n - i ≡ suc (n - (i + 1))
-one n i h = omega arith
 
 -- the cell is there
 room : (c : tie.After-wrap-add Inv-loop μ-loop) → c .before .before .loop .i < length (c .before .before .loop .values)
@@ -60,7 +57,7 @@ loop-again c =
     let v = c .wrap-add .result in
     let rest = replicate (s .args .n - (at .i + 1)) (s .args .number) in
     let value : v ≡ valueAfter (at .value) (s .args .number) = c .wrap-add .ensures ∙ ap (wrapAdd (at .value)) (c .before .before .before .difference .ensures) in
-    let more : replicate (s .args .n - at .i) (s .args .number) ≡ s .args .number ∷ rest = ap (λ (k : ℕ). replicate k (s .args .number)) (one (s .args .n) (at .i) (c .before .loop-test .taken)) in (
+    let more : replicate (s .args .n - at .i) (s .args .number) ≡ s .args .number ∷ rest = repeated-next (at .i) (s .args .n) (s .args .number) (c .before .loop-test .taken) in (
       omega arith,
       omega arith,
       length-set (at .values) (at .i) v ∙ at .inv .2,
