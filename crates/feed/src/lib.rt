@@ -17,7 +17,7 @@ ghost use Rattle.format.specs.File.{blockOf, accepted};
 ghost use Rattle.block.specs.declared.BlockPoints.{BlockPoints};
 ghost use Rattle.block.specs.Answers.{blockAnswer, PointsLaid};
 ghost use Rattle.index.specs.Frames.{indexPart};
-ghost use Rattle.feed.specs.Feeds.{keyOf, blocksLeft, Stands, Done, Begun, OnKey, OnBlock, OnPoint};
+ghost use Rattle.feed.specs.Feeds.{keyOf, blocksLeft, pastBlock, Stands, Done, Begun, OnKey, OnBlock, OnPoint};
 
 // Where a feed stands in an image.
 pub struct Feed {
@@ -37,7 +37,7 @@ pub enum NextKey {
 }
 
 // The next block of the open key is decoded, or there is none.
-enum NextBlock {
+pub enum NextBlock {
     Block(Feed),
     End,
 }
@@ -131,7 +131,7 @@ fn open_block(image: &[u8], entry: Entry, times: &mut [i64], values: &mut [u64])
 }
 
 // Decodes the next block of the open key.
-fn next_block(image: &[u8], feed: Feed, times: &mut [i64], values: &mut [u64]) -> NextBlock
+pub fn next_block(image: &[u8], feed: Feed, times: &mut [i64], values: &mut [u64]) -> NextBlock
     requires { ⌜ Stands (now image) feed × (readBlockMost ≤ length (now times)) × (readBlockMost ≤ length (now values)) ⌝ }
     ensures { λ r. ⌜ OnBlock (now (image .entry)) feed (now (times .exit)) (now (values .exit)) r ⌝ }
 {
@@ -151,6 +151,20 @@ fn next_block(image: &[u8], feed: Feed, times: &mut [i64], values: &mut [u64]) -
         next: 0,
         count,
     })
+}
+
+// The feed after all points of the decoded block.
+pub fn past_block(feed: Feed) -> Feed
+    ensures { λ r. ⌜ r ≡ pastBlock feed ⌝ }
+{
+    let start = feed.start;
+    let cursor = feed.cursor;
+    Feed {
+        start,
+        cursor,
+        next: 0,
+        count: 0,
+    }
 }
 
 // The number of points of an entry's block, which is known to be good.
