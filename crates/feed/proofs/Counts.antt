@@ -1,5 +1,6 @@
 -- Counting the points of a key block by block: those counted and those to come make all of them.
 --   Counting     n points were counted between two cursors in the index
+--   alone        the cursor of a feed, by itself
 --   counting-start, counting-further, counting-on, counting-end   step by step
 use Prim.Native.Nat.{ℕ, _+_, _*_, _≤_, _<_, zero-le}
 use mathlib.Core.Path.{_≡_, ap, _∙_}
@@ -32,7 +33,7 @@ pub record Counting (image : List ℕ) (start : ImagePlace) (first c : Cursor) (
 
 -- the cursor of a feed, by itself
 module _ (image : List ℕ) (f : Feed) (s : Stands image f) where
-  alone : Left image (atCursor (f .start) (f .cursor)) (blocksLeft image f) (seriesLeft image f)
+  pub alone : Left image (atCursor (f .start) (f .cursor)) (blocksLeft image f) (seriesLeft image f)
   alone =
       placed image (atCursor (f .start) (f .cursor)) (entriesLeft image f) (keysLeft image f) (blocksLeft image f) (seriesLeft image f) (record {
         frame = s .frame;

@@ -1,4 +1,4 @@
--- The laws of this crate; a client of a feed needs `ok-of` of Keys, `points-blocks` of Cells and `file-size` of Sizes.
+-- The laws of this crate; a client of a feed needs `ok-of` of Keys, `points-blocks` of Cells and `alone` of Counts.
 --   Readings   blocks and series that were read, one by one
 --   Standing   a feed by what its index and its blocks read
 --   Cells      the decoded block in the cells
@@ -6,7 +6,6 @@
 --   Blocks     the next block
 --   Points     the next point
 --   Counts     counting the points of a key
---   Sizes      how much an accepted image can mean
 pub mod Readings
 pub mod Standing
 pub mod Cells
@@ -14,4 +13,3 @@ pub mod Keys
 pub mod Blocks
 pub mod Points
 pub mod Counts
-pub mod Sizes

@@ -9,6 +9,7 @@
 --   openSeries     the series of the open key, with its points
 --   Stands         a feed stands where a walk over an accepted image stands
 --   Done           the open key has no point left
+--   pastBlock      the feed after all points of the decoded block
 --   Begun, OnKey, OnBlock, OnPoint   what the first feed and each step have
 use Prim.Native.Nat.{ℕ, _+_, _-_, _≤_, _<_}
 use mathlib.Core.Path.{_≡_}
@@ -121,6 +122,10 @@ pub record BlockOpened (image : List ℕ) (f : Feed) (times : List ℤ) (values 
 abbrev pub OnBlock : List ℕ → Feed → (times : List ℤ) → (values : List ℕ) → NextBlock → Type 0
 OnBlock image f times values (NextBlock.Block g) = BlockOpened image f times values g
 OnBlock image f times values NextBlock.End = (f .cursor .left ≡ 0) × (blocksLeft image f ≡ [])
+
+-- the feed after all points of the decoded block
+abbrev pub pastBlock : Feed → Feed
+pastBlock f = record { start = f .start; cursor = f .cursor; next = 0; count = 0 }
 
 -- ---- the next point
 

@@ -17,7 +17,7 @@ ghost use Rattle.format.specs.File.{blockOf, accepted};
 ghost use Rattle.block.specs.declared.BlockPoints.{BlockPoints};
 ghost use Rattle.block.specs.Answers.{blockAnswer, PointsLaid};
 ghost use Rattle.index.specs.Frames.{indexPart};
-ghost use Rattle.feed.specs.Feeds.{keyOf, blocksLeft, Stands, Done, Begun, OnKey, OnBlock, OnPoint};
+ghost use Rattle.feed.specs.Feeds.{keyOf, blocksLeft, pastBlock, Stands, Done, Begun, OnKey, OnBlock, OnPoint};
 
 // Where a feed stands in an image.
 pub struct Feed {
@@ -151,6 +151,20 @@ pub fn next_block(image: &[u8], feed: Feed, times: &mut [i64], values: &mut [u64
         next: 0,
         count,
     })
+}
+
+// The feed after all points of the decoded block.
+pub fn past_block(feed: Feed) -> Feed
+    ensures { λ r. ⌜ r ≡ pastBlock feed ⌝ }
+{
+    let start = feed.start;
+    let cursor = feed.cursor;
+    Feed {
+        start,
+        cursor,
+        next: 0,
+        count: 0,
+    }
 }
 
 // The number of points of an entry's block, which is known to be good.
