@@ -1,29 +1,34 @@
 -- A varint that is read byte by byte: what is read from here on, after the groups passed, is what is read from the start.
---   Reading                  the state of the loop
 --   scan-end, scan-breaks    no byte is left, and a byte that breaks the number
 --   scan-fits, scan-last     a byte that ends it: the number fits 64 bits, and is the answer
+--   scan-first               the same of the first
+--   kept-middle, breaks-middle, scan-tenth, scan-no-tenth   bytes before the tenth, and the tenth
 --   scan-value, scan-scale, scan-more   a byte that goes on: the state after it
 use Prim.Native.Nat.{ℕ, _+_, _-_, _*_, _^_, _≤_, _<_}
 use native.Mathlib.Numerals.{add-one}
 use native.Mathlib.Omega.{arith}
 use mathlib.Core.Path.{_≡_, refl, ap, sym, _∙_}
-use mathlib.Core.Bool.{true, false}
+use mathlib.Core.Bool.{true, false, _&&_, and-false, or-true}
+use mathlib.Core.Logic.{⊎-elim}
 use mathlib.Core.List.{List, _∷_}
 use lib.ListN.{length, drop, getD, drop-of-length-le}
 use lib.Seq.{drop-cons}
+use lib.Dec.{eqb, ltb}
+use borrow.Author.Tests.{lt-ltb, eq-eqb, ne-eqb}
 use Rattle.format.specs.declared.Refusal.the-variants.{BadRoll}
 use Rattle.format.specs.Refusals.{Result, ok, refused}
 use Rattle.format.specs.Varint.{readGroups}
+use Rattle.format.proofs.Cases.{same-or}
 use Rattle.numbers.specs.declared.Varint.the-variants.{Number, Broken}
-use Rattle.numbers.specs.VarintAt.{varintOf, varintAt, breaksAfter}
+use Rattle.numbers.specs.VarintAt.{varintOf, varintAt, breaksAfter, Reading}
 use Rattle.numbers.proofs.Varints.{kept-tenth, read-breaks, read-last, read-more, last-fits, more-below, power-more, power-fits}
 
-pub record Reading (s : List ℕ) (at value scale groups place : ℕ) : Type 0 where
-  pub few : groups ≤ 9
-  pub scaled : scale ≡ 128 ^ groups
-  pub below : value < 128 ^ groups
-  pub inside : place ≤ length s
-  pub same : varintOf (readGroups BadRoll groups value place (drop place s)) ≡ varintAt s at
+-- a byte before the tenth and after the first breaks a varint where it is 0
+pub kept-middle : (i b : ℕ) → i < 9 → (b ≡ 0 → ⊥) → breaksAfter i b ≡ false
+kept-middle i b early some = let not : i ≡ 9 → ⊥ = λ e. omega arith in rw (ne-eqb i 9 not, ne-eqb b 0 some)
+
+pub breaks-middle : (i b : ℕ) → 0 < i → b ≡ 0 → breaksAfter i b ≡ true
+breaks-middle i b later none = rw (eq-eqb b 0 none, lt-ltb 0 i later) (or-true (eqb i 9 && ltb 1 b))
 
 pub scan-start : (s : List ℕ) (at : ℕ) → at ≤ length s → Reading s at 0 1 0 at
 unfolding varintAt
@@ -78,3 +83,27 @@ module _ {s : List ℕ} {at value scale groups place : ℕ} (r : Reading s at va
               inside = omega arith;
               same = rw (r .scaled) (reads _ (read-more BadRoll groups value place byte _ kept large));
             }
+
+-- the first byte ends the number
+pub scan-first : (s : List ℕ) (at : ℕ) → at < length s → getD s at 0 < 128 → Number (getD s at 0) (at + 1) ≡ varintAt s at
+scan-first s at h small =
+    let kept : breaksAfter 0 (getD s at 0) ≡ false = and-false (eqb (getD s at 0) 0) in
+    let one : 0 + getD s at 0 * 1 ≡ getD s at 0 = omega arith in
+    rw one at (scan-last (scan-start s at (omega arith)) h kept small)
+
+-- the tenth byte: it is 1
+module _ {s : List ℕ} {at value scale place : ℕ} (r : Reading s at value scale 9 place) (h : place < length s) where
+  pub tenth-fits : getD s place 0 ≡ 1 → value + scale < 2 ^ 64
+  tenth-fits one = omega (arith, scan-fits r h (rw one refl) (omega arith))
+
+  pub scan-tenth : getD s place 0 ≡ 1 → Number (value + scale) (place + 1) ≡ varintAt s at
+  scan-tenth one =
+      let whole : value + getD s place 0 * scale ≡ value + scale = rw one (omega arith) in
+      rw whole at (scan-last r h (rw one refl) (omega arith))
+
+  pub scan-no-tenth : (getD s place 0 ≡ 1 → ⊥) → Broken place ≡ varintAt s at
+  scan-no-tenth other =
+      ⊎-elim
+      (λ (none : getD s place 0 ≡ 0). scan-breaks r h (breaks-middle 9 (getD s place 0) (omega arith) none))
+      (λ (some : getD s place 0 ≡ 0 → ⊥). let more : 1 < getD s place 0 = omega arith in scan-breaks r h (rw (lt-ltb 1 (getD s place 0) more)))
+      (same-or (getD s place 0) 0)
