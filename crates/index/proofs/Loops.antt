@@ -17,8 +17,8 @@ use Rattle.index.specs.declared.Cursor.{Cursor}
 use Rattle.index.specs.declared.Opened.{Opened}
 use Rattle.index.specs.declared.Skipped.{Skipped}
 use Rattle.index.specs.declared.Step.{Step}
-use Rattle.index.specs.Cursors.{openedAt, stepOf, skippedAt, pastEntries, entriesAt, stepAt, firstCursor, rest, Sound}
-use Rattle.index.proofs.Walks.{Remaining, beforeKey, beforeEntry, step-open}
+use Rattle.index.specs.Cursors.{between, openedAt, stepOf, skippedAt, pastEntries, entriesAt, stepAt, firstCursor, rest, Sound}
+use Rattle.index.proofs.Walks.{Remaining, beforeKey, beforeEntry, step-between}
 use Rattle.index.proofs.Sounds.{first-sound}
 use Rattle.index.proofs.Skips.{beforeEntries, OnEntries, on-entries, skip-refused}
 use Rattle.index.proofs.Steps.{OnKey, on-key, OnEntry, on-entry, at-end, at-refusal}
@@ -70,8 +70,8 @@ module _ {A : Type 0} (index : List ℕ) (x : ℕ) (whole : A) (c : Cursor) (dec
   loop-step Step.End e = sym (ap decide (at-end index x c e)) ∙ now .same
   loop-step (Step.Refused r place) e = sym (ap decide (at-refusal index x c r place e)) ∙ now .same
 
-  pub loop-open : c .left ≡ 0 → (o : Opened) → openedAt index x c ≡ o → After index x whole c decide (stepOf o)
-  loop-open none o e = loop-step (stepOf o) (step-open index x c none ∙ ap stepOf e)
+  pub loop-open : c .left ≡ 0 → (o : Opened) → openedAt index x (between (c .at) (c .ended) (c .key)) ≡ o → After index x whole c decide (stepOf o)
+  loop-open none o e = loop-step (stepOf o) (step-between index x c none ∙ ap stepOf e)
 
 -- d is past the entries of the key of c
 pub record AfterEntries {A : Type 0} (index : List ℕ) (x : ℕ) (whole : A) (c : Cursor) (decide : Remaining → A) (d : Cursor) : Type 0 where

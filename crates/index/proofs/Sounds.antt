@@ -1,6 +1,7 @@
 -- A cursor stays within the index.
 --   StepSound, step-sound     a step leads to a sound cursor further on
 --   first-sound               the first cursor is sound
+--   between-sound             a sound cursor is sound without its entries
 use Prim.Native.Nat.{ℕ, zero, suc, _+_, _-_, _*_, _≤_, _<_, zero-le}
 use mathlib.Core.Path.{_≡_, refl}
 use mathlib.Core.Bool.{Bool, true, false}
@@ -17,7 +18,7 @@ use Rattle.format.specs.Index.{blockSpan, checkEntry}
 use Rattle.index.specs.declared.Cursor.{Cursor}
 use Rattle.index.specs.declared.Opened.{Opened}
 use Rattle.index.specs.declared.Step.{Step}
-use Rattle.index.specs.Cursors.{keyAt, maxOf, readHead, headOf, opened, openedAt, taken, entryCheckOf, entryAt, takenAt, stepOf, stepAt, firstCursor, Sound}
+use Rattle.index.specs.Cursors.{keyAt, maxOf, readHead, headOf, between, opened, openedAt, taken, entryCheckOf, entryAt, takenAt, stepOf, stepAt, firstCursor, Sound}
 use Rattle.index.proofs.Fits.{HeadFits, head-fits, BlockFits, EntryFits, entry-fits}
 use Rattle.index.proofs.Walks.{step-open, step-take}
 
@@ -71,3 +72,6 @@ module _ (index : List ℕ) (x : ℕ) (c : Cursor) (s : Sound index x c) where
 
 pub first-sound : (index : List ℕ) (x : ℕ) → x + length index ≤ imageMost → 5 ≤ x → Sound index x firstCursor
 first-sound index x h k = record { image = h; entries = zero-le; key = zero-le; ended = k }
+
+pub between-sound : (index : List ℕ) (x : ℕ) (c : Cursor) → Sound index x c → Sound index x (between (c .at) (c .ended) (c .key))
+between-sound index x c s = record { image = s .image; entries = omega (arith, s .entries); key = s .key; ended = s .ended }
