@@ -1,6 +1,6 @@
 -- The steps of a pass within a key: what each asks holds, and after it what the next asks.
 --   past-key                                  a place of the open key is past every image
---   extend-fits, extend-filling, extend-same   points are added
+--   extend-fits, extend-filling, extend-comes, extend-same   points are added
 --   push-fits, push-filling, push-same        a point is added
 --   end-fits, count-fits, count-room, end-same   the key is closed
 use Prim.Native.Nat.{ℕ, _+_, _≤_, _<_}
@@ -197,10 +197,15 @@ module _ (laying : Bool) (kind : Kind) (ps qs : List Point) (s : Places) (times 
       key = rw (fill, places-are, laid-are) (extend-open laying kind (filled (s .filled) times values) ps qs s out (h .key) grown-few near);
     }
 
-    pub extend-same : keyEnd laying kind (filled (s′ .filled) times′ values′) qs s′ out′ ≡ keyEnd laying kind (filled (s .filled) times values) (ps ++ qs) s out
-    extend-same =
+    -- whatever rs is to come, where nothing is laid
+    pub extend-comes : (rs : List Point) → (laying ≡ true → rs ≡ qs) → keyEnd laying kind (filled (s′ .filled) times′ values′) rs s′ out′ ≡ keyEnd laying kind (filled (s .filled) times values) (ps ++ rs) s out
+    extend-comes rs all =
         rw (fill, places-are, laid-are)
-        (extend-future laying kind (filled (s .filled) times values) ps qs s out grown-few (λ l. h .key .room l .fits))
+        (extend-future laying kind (filled (s .filled) times values) ps rs s out grown-few
+        (λ l. subst (λ (l : List Point). KeyFits kind (filled (s .filled) times values) (ps ++ l) s out) (sym (all l)) (h .key .room l .fits)))
+
+    pub extend-same : keyEnd laying kind (filled (s′ .filled) times′ values′) qs s′ out′ ≡ keyEnd laying kind (filled (s .filled) times values) (ps ++ qs) s out
+    extend-same = extend-comes qs (λ l. refl)
 
 module _ (laying : Bool) (kind : Kind) (t : ℤ) (v : ℕ) (ps : List Point) (s : Places) (times : List ℤ) (values out : List ℕ) (h : Filling laying kind (pointOf t v ∷ ps) s times values out) where
   abbrev ts : List ℤ
