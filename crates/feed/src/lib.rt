@@ -37,7 +37,7 @@ pub enum NextKey {
 }
 
 // The next block of the open key is decoded, or there is none.
-enum NextBlock {
+pub enum NextBlock {
     Block(Feed),
     End,
 }
@@ -131,7 +131,7 @@ fn open_block(image: &[u8], entry: Entry, times: &mut [i64], values: &mut [u64])
 }
 
 // Decodes the next block of the open key.
-fn next_block(image: &[u8], feed: Feed, times: &mut [i64], values: &mut [u64]) -> NextBlock
+pub fn next_block(image: &[u8], feed: Feed, times: &mut [i64], values: &mut [u64]) -> NextBlock
     requires { ⌜ Stands (now image) feed × (readBlockMost ≤ length (now times)) × (readBlockMost ≤ length (now values)) ⌝ }
     ensures { λ r. ⌜ OnBlock (now (image .entry)) feed (now (times .exit)) (now (values .exit)) r ⌝ }
 {

@@ -22,8 +22,8 @@ use Rattle.format.proofs.Tests.{both-left}
 use Rattle.file_laws.proofs.FilesAccepted.{file-accepted}
 use Rattle.merging.proofs.MergeLaws.{merge-wellFormed}
 use Rattle.feed.proofs.Keys.{ok-of}
-use Rattle.merge.specs.Turns.{meaningOf, mergedOf}
-use Rattle.merge.proofs.Passes.{meaning-is}
+use Rattle.key_merge.specs.Turns.{meaningOf, mergedOf}
+use Rattle.key_merge.proofs.Starts.{meaning-is}
 
 -- ---- the answer, by the checks and the kinds
 

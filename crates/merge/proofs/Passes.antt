@@ -1,57 +1,30 @@
 -- A pass, series after series: those to come, added from here on, make all of the merge.
---   Started, started       the first feed of an image
 --   firstSpot, whole-same, passing-starts   where a pass starts
 --   passing-past, passing-end, passing-ready, next-added   step by step
 use Prim.Native.Nat.{ℕ, _≤_}
-use mathlib.Core.Path.{_≡_, refl, ap, ap₂, sym, subst, _∙_}
+use mathlib.Core.Path.{_≡_, ap, ap₂, sym, subst, _∙_}
 use mathlib.Core.Bool.{Bool, true}
 use mathlib.Core.List.{List, [], _∷_}
 use native.Mathlib.Omega.{arith}
 use lib.IntN.{ℤ}
 use lib.ListN.{length}
 use Rattle.format.specs.Limits.{headerSize, imageMost}
-use Rattle.format.specs.Bytes.{AllBytes}
 use Rattle.format.specs.Choice.{every}
 use Rattle.format.specs.Meaning.{Meaning}
 use Rattle.format.specs.Merge.{merge}
 use Rattle.format.specs.WellFormed.{goodSeries}
-use Rattle.format.specs.File.{readFile}
-use Rattle.format.specs.Refusals.{ok}
 use Rattle.format.proofs.Tests.{both-left, both-right}
-use Rattle.file_laws.proofs.FilesAccepted.{file-accepted}
-use Rattle.merging.proofs.Sorted.{Ascending}
-use Rattle.merging.proofs.Orders.{byKey}
-use Rattle.merging.proofs.Facts.{facts}
 use Rattle.builder.specs.Steps.{Closed, seriesEnd}
 use Rattle.builder.specs.Passes.{SeriesRoom, Past}
 use Rattle.builder.proofs.SeriesPasses.{past-first, series-none}
 use Rattle.feed.specs.declared.Feed.{Feed}
-use Rattle.feed.specs.Feeds.{seriesLeft, Stands, Done, Begun}
-use Rattle.merge.specs.Turns.{meaningOf, mergedOf}
-use Rattle.merge.specs.Adding.{nextSeries, later, SeriesReady, openClosed, OneAdded, SeriesAddedAs, Lent, Passing, laterClosed, NextAdded, NextAddedAs, PassReady, allClosed}
+use Rattle.feed.specs.Feeds.{seriesLeft}
+use Rattle.key_merge.specs.Turns.{mergedOf, nextSeries, later}
+use Rattle.merge.specs.Adding.{SeriesReady, openClosed, OneAdded, SeriesAddedAs, Lent, Passing, laterClosed, NextAdded, NextAddedAs, PassReady, allClosed}
 use Rattle.merge.specs.declared.Spot.{Spot}
 use Rattle.merge.specs.declared.SeriesAdded.{SeriesAdded}
-use Rattle.merge.proofs.Keys.{Turned}
-
--- ---- the first feed
-
-pub meaning-is : (image : List ℕ) (m : Meaning) → readFile image ≡ ok m → meaningOf image ≡ m
-unfolding meaningOf
-meaning-is image m e = rw e refl
-
-pub record Started (image : List ℕ) (f : Feed) : Type 0 where
-  pub stands : Stands image f
-  pub done : Done f
-  pub meaning : meaningOf image ≡ seriesLeft image f
-  pub up : Ascending byKey (seriesLeft image f)
-
-pub started : (image : List ℕ) (f : Feed) → AllBytes image → Begun image f → Started image f
-started image f all b = record {
-  stands = b .stands;
-  done = b .done;
-  meaning = meaning-is image (seriesLeft image f) (b .meaning);
-  up = facts (seriesLeft image f) .0 (file-accepted image all (seriesLeft image f) (b .meaning)) .ascending;
-}
+use Rattle.key_merge.proofs.Starts.{Started}
+use Rattle.key_merge.proofs.Keys.{Turned}
 
 -- ---- between two series
 

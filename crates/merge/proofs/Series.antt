@@ -19,8 +19,9 @@ use Rattle.builder.proofs.SeriesPasses.{good-key, begin-room, begin-filling, se
 use Rattle.feed.specs.declared.Feed.{Feed}
 use Rattle.feed.proofs.Cells.{points-blocks}
 use Rattle.writer.specs.Adding.{noKey, closedKey}
-use Rattle.merge.specs.Turns.{KeyDone}
-use Rattle.merge.specs.Adding.{mergedPoints, PointsReady, nextSeries, later, SeriesReady, openClosed, OneAdded}
+use Rattle.key_merge.specs.Turns.{KeyDone, nextSeries, later}
+use Rattle.point_merge.specs.Adding.{mergedPoints, PointsReady}
+use Rattle.merge.specs.Adding.{SeriesReady, openClosed, OneAdded}
 
 module _ {second : Bool} {older : List ℕ} {x : Feed} {olderTimes : List ℤ} {olderValues : List ℕ}
     {newer : List ℕ} {y : Feed} {newerTimes : List ℤ} {newerValues : List ℕ}

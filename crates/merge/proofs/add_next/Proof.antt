@@ -6,8 +6,8 @@ use mathlib.Core.Bool.{Bool}
 use Rattle.format.specs.Limits.{imageMost}
 use Rattle.feed.specs.declared.Feed.{Feed}
 use Rattle.writer.proofs.Judges.{past-both, past-neither}
-use Rattle.merge.specs.Turns.{TurnAs}
-use Rattle.merge.proofs.Keys.{Turned, turned}
+use Rattle.key_merge.specs.Turns.{TurnAs}
+use Rattle.key_merge.proofs.Keys.{Turned, turned}
 use Rattle.merge.proofs.Passes.{passing-past, passing-end, passing-ready, next-added}
 use Rattle.merge.proofs.add_next.Statement.{statement}
 use Rattle.merge.proofs.add_next.Tie as tie

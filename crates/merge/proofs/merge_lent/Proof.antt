@@ -12,7 +12,7 @@ use Rattle.merge.specs.Adding.{allClosed}
 use Rattle.format.proofs.Lists.{nothing-before}
 use Rattle.format.proofs.Tests.{never}
 use Rattle.writer.proofs.Laying.{image-long, image-left, image-fits, image-written, passed-ended, passed-past}
-use Rattle.merge.specs.Turns.{mergedOf}
+use Rattle.key_merge.specs.Turns.{mergedOf}
 use Rattle.merge.proofs.merge_lent.Statement.{statement}
 use Rattle.merge.proofs.merge_lent.Tie as tie
 

@@ -1,0 +1,101 @@
+-- `grow` meets its contract: by which block has points left.
+use borrow.Author.Needs.{needs}
+use native.Mathlib.Omega.{arith}
+use Rattle.block_merge.proofs.Grows.{grown-newer, grown-older, grown-both}
+use Rattle.block_merge.proofs.grow.Statement.{statement}
+use Rattle.block_merge.proofs.grow.Tie as tie
+
+sub-room : tie.Need-sub-room
+sub-room c = search needs
+
+sub-least : tie.Need-sub-least
+sub-least c = search needs
+
+least-requires : tie.Need-least-requires
+least-requires c κs = search needs
+
+copy-run-requires : tie.Need-copy-run-requires
+copy-run-requires c κs = search needs
+
+add-t17 : tie.Need-add-t17
+add-t17 c = search needs
+
+add-t23 : tie.Need-add-t23
+add-t23 c = search needs
+
+same-length : tie.Need-same-length
+same-length c = search needs
+
+same-length-2 : tie.Need-same-length-2
+same-length-2 c = search needs
+
+returns : tie.Need-returns
+returns c =
+    let (o, n, f) = c .before .before .before .before .before .before .before .before .before .before .before .pre in
+    grown-newer _ _ _ _ _ _ _ _ _ _ _ (omega (arith, o .order)) (omega (arith, n .order)) (omega (arith, f .order)) _ (c .before .before .before .before .before .before .before .if1 .taken) (c .before .before .before .before .before .before .least .ensures) (c .before .before .before .copy-run .ensures)
+
+sub-least-2 : tie.Need-sub-least-2
+sub-least-2 c = search needs
+
+least-requires-2 : tie.Need-least-requires-2
+least-requires-2 c κs = search needs
+
+copy-run-requires-2 : tie.Need-copy-run-requires-2
+copy-run-requires-2 c κs = search needs
+
+add-t24 : tie.Need-add-t24
+add-t24 c = search needs
+
+add-t30 : tie.Need-add-t30
+add-t30 c = search needs
+
+same-length-3 : tie.Need-same-length-3
+same-length-3 c = search needs
+
+same-length-4 : tie.Need-same-length-4
+same-length-4 c = search needs
+
+returns-2 : tie.Need-returns-2
+returns-2 c =
+    let (o, n, f) = c .before .before .before .before .before .before .before .before .before .before .before .before .pre in
+    grown-older _ _ _ _ _ _ _ _ _ _ _ (omega (arith, o .order)) (omega (arith, n .order)) (omega (arith, f .order)) _ (c .before .before .before .before .before .before .before .if2 .taken) (c .before .before .before .before .before .before .least2 .ensures) (c .before .before .before .copy-run2 .ensures)
+
+merge-blocks-requires : tie.Need-merge-blocks-requires
+merge-blocks-requires c κs = search needs
+
+same-length-5 : tie.Need-same-length-5
+same-length-5 c = search needs
+
+same-length-6 : tie.Need-same-length-6
+same-length-6 c = search needs
+
+returns-3 : tie.Need-returns-3
+returns-3 c =
+    let (o, n, f) = c .before .before .before .before .before .before .before .before .before .before .before .pre in
+    grown-both _ _ _ _ _ _ _ _ _ _ _ (omega (arith, o .order)) (omega (arith, n .order)) (omega (arith, f .order)) _ (c .before .before .before .before .before .before .before .if1 .left) (c .before .before .before .before .before .before .if2 .left) (c .before .before .before .merge-blocks .ensures)
+
+pub grow-spec : {M : Type 1} → statement M
+grow-spec =
+    tie.close
+    (tie.spec
+    sub-room
+    sub-least
+    least-requires
+    copy-run-requires
+    add-t17
+    add-t23
+    same-length
+    same-length-2
+    returns
+    sub-least-2
+    least-requires-2
+    copy-run-requires-2
+    add-t24
+    add-t30
+    same-length-3
+    same-length-4
+    returns-2
+    merge-blocks-requires
+    same-length-5
+    same-length-6
+    returns-3)

@@ -1,0 +1,2 @@
+-- What the code of this crate means beyond the definitions of crate format.
+pub mod Turns
