@@ -1,18 +1,16 @@
 -- The fill grows by points of two blocks, or of one where the other side has none left at all.
 --   grown-newer, grown-older   of one block
 --   grown-both                 of two
-use Prim.Native.Nat.{ℕ, _+_, _-_, _≤_, _<_}
-use mathlib.Core.Path.{_≡_, refl, sym, ap, _∙_}
-use mathlib.Core.List.{List, [], _++_}
+use Prim.Native.Nat.{ℕ, _+_, _-_, _≤_}
+use mathlib.Core.Path.{_≡_}
+use mathlib.Core.List.{List}
 use native.Mathlib.Omega.{arith}
 use lib.IntN.{ℤ}
-use lib.ListN.{length}
 use Rattle.format.specs.Limits.{writerBlockMost}
-use Rattle.format.specs.Meaning.{Point}
 use Rattle.merging.proofs.Walk.{points-end}
 use Rattle.block_writer.specs.Filled.{filled}
 use Rattle.block_merge.specs.declared.Merged.{Merged}
-use Rattle.block_merge.specs.Cells.{cells, merged, Least, BlocksMoved, Copied, Grown}
+use Rattle.block_merge.specs.Cells.{Least, BlocksMoved, Copied, Grown}
 use Rattle.block_merge.proofs.Moves.{cells-none}
 
 module _ (olderTimes : List ℤ) (olderValues : List ℕ) (iEnd : ℕ) (newerTimes : List ℤ) (newerValues : List ℕ) (jEnd : ℕ)

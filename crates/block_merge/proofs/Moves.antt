@@ -4,28 +4,25 @@
 --   merge-next               the next point of a merge, by which time is earlier
 --   moved-none, moved-on, next-moved   no point, two moves one after the other, and one point
 --   copied-none, copied-next           no point of one block, and one point more
-use Prim.Native.Nat.{ℕ, _+_, _-_, _≤_, _<_}
-use mathlib.Core.Path.{_≡_, refl, sym, ap, ap₂, subst, _∙_}
+use Prim.Native.Nat.{ℕ, _+_, _≤_, _<_}
+use mathlib.Core.Path.{_≡_, refl, sym, ap, ap₂, _∙_}
 use mathlib.Core.Logic.{⊎-elim}
 use mathlib.Core.Bool.{Bool, true, false}
 use mathlib.Core.List.{List, [], _∷_, _++_, append-assoc}
-use native.Mathlib.Numerals.{add-one}
 use native.Mathlib.Omega.{arith}
 use lib.IntN.{ℤ, pos}
-use lib.ListN.{length, take, drop, getD, set}
-use lib.Seq.{length-take-le, take-suc-set}
+use lib.ListN.{length, getD, set}
 use lib.Signed.{ltZ}
 use Rattle.format.proofs.Tests.{true-or-false, never}
 use Rattle.format.specs.Choice.{if_then_else_}
 use Rattle.format.specs.Meaning.{Point, pointOf}
-use Rattle.format.specs.Block.{pointsFrom}
 use Rattle.format.specs.Merge.{mergePoints}
 use Rattle.format.proofs.Orders.{time-irreflexive, time-transitive, time-total}
 use Rattle.format.proofs.Parts.{part-next, part-none}
 use Rattle.merging.proofs.Walk.{points-older, points-newer, points-both}
 use Rattle.block_writer.specs.Filled.{filled}
 use Rattle.builder.proofs.Fills.{fuller-is}
-use Rattle.block_merge.specs.Cells.{cells, step, NextLaid, merged, Moved, Copied}
+use Rattle.block_merge.specs.Cells.{cells, step, NextLaid, Moved, Copied}
 
 -- ---- the cells
 

@@ -1,7 +1,6 @@
 // The points of two decoded blocks merged into the fill of the builder, on plain numbers and slices. Floor 7: it stands
 // on builder.
-ghost use mathlib.Core.Path.{_≡_};
-ghost use Prim.Native.Nat.{_≤_, _<_};
+ghost use Prim.Native.Nat.{_<_};
 ghost use lib.ListN.{length};
 ghost use Rattle.format.specs.Limits.{writerBlockMost};
 ghost use Rattle.block_merge.specs.Cells.{NextLaid, Within, RunMoved, Least, BlocksMoved, Copied, Grown};

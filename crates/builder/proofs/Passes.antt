@@ -1,33 +1,31 @@
 -- The steps of a pass within a key: what each asks holds, and after it what the next asks.
 --   past-key                                  a place of the open key is past every image
---   extend-fits, extend-filling, extend-same   points are added
---   push-fits, push-filling, push-same        a point is added
+--   extend-fits, extend-filling, extend-comes, extend-same   points are added
 --   end-fits, count-fits, count-room, end-same   the key is closed
 use Prim.Native.Nat.{ℕ, _+_, _≤_, _<_}
 use mathlib.Core.Path.{_≡_, refl, sym, subst, ap, _∙_}
 use mathlib.Core.Bool.{Bool, true, false}
-use mathlib.Core.List.{List, [], _∷_, _++_, append-assoc}
+use mathlib.Core.List.{List, [], _++_, append-assoc}
 use native.Mathlib.Omega.{arith}
 use lib.IntN.{ℤ}
-use lib.ListN.{length, take, length-append}
+use lib.ListN.{length, take}
 use lib.Seq.{length-take-le}
 use borrow.Author.Tests.{ltb-true, ltb-false}
 use Rattle.format.specs.declared.Kind.{Kind}
 use Rattle.format.specs.Limits.{writerBlockMost, imageMost}
 use Rattle.format.specs.Choice.{every, ascends}
-use Rattle.format.specs.Meaning.{Point, pointOf, pointBefore}
+use Rattle.format.specs.Meaning.{Point, pointBefore}
 use Rattle.format.specs.WellFormed.{goodPoint}
-use Rattle.format.specs.Block.{pointsFrom}
 use Rattle.section_laws.proofs.BlockLengths.{blockBytes-most}
 use Rattle.block_writer.specs.Filled.{filled, BlockFits}
 use Rattle.builder.specs.declared.Places.{Places}
 use Rattle.builder.specs.Open.{entriesLeft}
 use Rattle.numbers.specs.Laying.{Room}
-use Rattle.builder.specs.Steps.{FlushFits, ExtendFits, PushFits, EndFits, CountFits, KeyFits, Closed, keyEnd, fuller, stays, fillPlaces, flushPlaces, flushBytes, extendPlaces, extendBytes, extendFill, pushPlaces, pushBytes, pushFill, endPlaces, endBytes}
+use Rattle.builder.specs.Steps.{FlushFits, ExtendFits, EndFits, CountFits, KeyFits, Closed, keyEnd, stays, fillPlaces, flushPlaces, flushBytes, extendPlaces, extendBytes, extendFill, endPlaces, endBytes}
 use Rattle.builder.proofs.Lefts.{Ends, ends-full, ends-last, grown-entries}
-use Rattle.builder.proofs.Fills.{points-more, filled-length, extend-stays, extend-flushes, extend-fill}
+use Rattle.builder.proofs.Fills.{filled-length, extend-stays, extend-flushes, extend-fill}
 use Rattle.builder.proofs.Futures.{end-future}
-use Rattle.builder.proofs.Pushes.{fits-same, extend-future, flush-room, flush-kept, entries-length}
+use Rattle.builder.proofs.Extends.{fits-same, extend-future, flush-room, flush-kept, entries-length}
 use Rattle.builder.specs.Passes.{Near, KeyRoom, KeyOpen, Filling, Past}
 use Rattle.builder.proofs.Fillings.{every-right, ascends-right, fill-ascends, fill-of-kind}
 
@@ -197,66 +195,15 @@ module _ (laying : Bool) (kind : Kind) (ps qs : List Point) (s : Places) (times 
       key = rw (fill, places-are, laid-are) (extend-open laying kind (filled (s .filled) times values) ps qs s out (h .key) grown-few near);
     }
 
-    pub extend-same : keyEnd laying kind (filled (s′ .filled) times′ values′) qs s′ out′ ≡ keyEnd laying kind (filled (s .filled) times values) (ps ++ qs) s out
-    extend-same =
+    -- whatever rs is to come, where nothing is laid
+    pub extend-comes : (rs : List Point) → (laying ≡ true → rs ≡ qs) → keyEnd laying kind (filled (s′ .filled) times′ values′) rs s′ out′ ≡ keyEnd laying kind (filled (s .filled) times values) (ps ++ rs) s out
+    extend-comes rs all =
         rw (fill, places-are, laid-are)
-        (extend-future laying kind (filled (s .filled) times values) ps qs s out grown-few (λ l. h .key .room l .fits))
+        (extend-future laying kind (filled (s .filled) times values) ps rs s out grown-few
+        (λ l. subst (λ (l : List Point). KeyFits kind (filled (s .filled) times values) (ps ++ l) s out) (sym (all l)) (h .key .room l .fits)))
 
-module _ (laying : Bool) (kind : Kind) (t : ℤ) (v : ℕ) (ps : List Point) (s : Places) (times : List ℤ) (values out : List ℕ) (h : Filling laying kind (pointOf t v ∷ ps) s times values out) where
-  abbrev ts : List ℤ
-  ts = take (s .filled) times ++ (t ∷ [])
-
-  abbrev vs : List ℕ
-  vs = take (s .filled) values ++ (v ∷ [])
-
-  even-more : length ts ≡ length vs
-  even-more =
-      omega (
-        arith,
-        length-append (take (s .filled) times) (t ∷ []),
-        length-append (take (s .filled) values) (v ∷ []),
-        even laying kind (pointOf t v ∷ ps) s times values out h,
-      )
-
-  with-point : pointsFrom ts vs ++ ps ≡ filled (s .filled) times values ++ (pointOf t v ∷ ps)
-  with-point =
-      ap (λ (qs : List Point). qs ++ ps) (points-more (take (s .filled) times) (take (s .filled) values) t v (even laying kind (pointOf t v ∷ ps) s times values out h))
-      ∙ append-assoc (filled (s .filled) times values) (pointOf t v ∷ []) ps
-
-  longer : length (fuller (s .filled) times values t v) ≡ length (filled (s .filled) times values) + 1
-  longer = length-append (filled (s .filled) times values) (pointOf t v ∷ [])
-
-  one-fits : length (fuller (s .filled) times values t v) ≤ writerBlockMost
-  one-fits = omega (arith, longer, h .key .few)
-
-  pub push-fits : PushFits laying kind times values s t v out
-  push-fits = record {
-    few = omega (arith, h .key .fill, h .key .few);
-    in-times = h .in-times;
-    in-values = h .in-values;
-    ascend = fill-ascends ts vs ps even-more (rw with-point (h .key .ascend));
-    of-kind = fill-of-kind kind ts vs ps even-more (rw with-point (h .key .good));
-    places-fit = h .key .places-fit;
-    flush-fits = λ full.
-        extend-room laying kind (filled (s .filled) times values) (pointOf t v ∷ []) ps s out (h .key) one-fits (omega (arith, longer, h .key .fill, full));
-  }
-
-  -- the places, arrays and bytes after it
-  module _ (s′ : Places) (times′ : List ℤ) (values′ out′ : List ℕ)
-      (places : s′ ≡ pushPlaces kind (fuller (s .filled) times values t v) s)
-      (laid : out′ ≡ pushBytes laying kind (fuller (s .filled) times values t v) s out)
-      (fill : filled (s′ .filled) times′ values′ ≡ pushFill (fuller (s .filled) times values t v)) where
-    pub push-filling : Near (s .block) (s .entry) → length times′ ≡ length times → length values′ ≡ length values → Filling laying kind ps s′ times′ values′ out′
-    push-filling near same-times same-values = record {
-      in-times = omega (arith, same-times, h .in-times);
-      in-values = omega (arith, same-values, h .in-values);
-      key = rw (fill, places, laid) (extend-open laying kind (filled (s .filled) times values) (pointOf t v ∷ []) ps s out (h .key) one-fits near);
-    }
-
-    pub push-same : keyEnd laying kind (filled (s′ .filled) times′ values′) ps s′ out′ ≡ keyEnd laying kind (filled (s .filled) times values) (pointOf t v ∷ ps) s out
-    push-same =
-        rw (fill, places, laid)
-        (extend-future laying kind (filled (s .filled) times values) (pointOf t v ∷ []) ps s out one-fits (λ l. h .key .room l .fits))
+    pub extend-same : keyEnd laying kind (filled (s′ .filled) times′ values′) qs s′ out′ ≡ keyEnd laying kind (filled (s .filled) times values) (ps ++ qs) s out
+    extend-same = extend-comes qs (λ l. refl)
 
 -- ---- the key is closed
 

@@ -1,6 +1,6 @@
 -- The steps of a pass from key to key: what each asks holds, and after it what the next asks.
 --   good-key, good-points, points-ascend    a good series
---   begin-room, begin-filling, begin-near   a key is opened
+--   opened-near, measured-filling, begin-room, begin-filling, begin-near   a key is opened
 --   series-same, series-room                a key is closed, and series are to come
 --   past-first, past-series                 a place is past every image
 --   series-none                             no series is left
@@ -14,6 +14,7 @@ use lib.IntN.{ℤ}
 use lib.Dec.{leb, ltb}
 use lib.ListN.{length}
 use borrow.Author.Tests.{leb-true}
+use Rattle.format.specs.declared.Kind.{Kind}
 use Rattle.format.specs.Limits.{keyMost, writerBlockMost, imageMost}
 use Rattle.format.specs.Choice.{every, ascends, isEmpty}
 use Rattle.format.specs.Meaning.{Series, Meaning, pointBefore}
@@ -26,7 +27,7 @@ use Rattle.builder.specs.Steps.{Closed, keyEnd, seriesEnd, headBytes, be
 use Rattle.builder.proofs.Futures.{closed-same}
 use Rattle.builder.proofs.Series.{begin-future, blocks-length, index-length, head-length, count-length}
 use Rattle.builder.specs.Passes.{Near, KeyRoom, KeyOpen, Filling, SeriesRoom, Past}
-use Rattle.format.proofs.Tests.{both-left, both-right}
+use Rattle.format.proofs.Tests.{both-left, both-right, never}
 
 -- ---- a good series
 
@@ -67,6 +68,30 @@ unfolding seriesEnd
 past-first laying ss b e out h = record { past = λ x y. h (omega (arith, x)) (omega (arith, y)) }
 
 -- ---- a key is opened at the places p
+
+-- what its key alone says
+module _ (key : List ℕ) (p : Places) (short : length key ≤ keyMost) (block-in : p .block ≤ imageMost) (entry-in : p .entry ≤ imageMost) where
+  pub opened-near : Near (beginPlaces key p .block) (beginPlaces key p .entry)
+  unfolding beginPlaces
+  opened-near = record { block-near = omega arith; entry-near = omega arith }
+
+  measured-open : (kind : Kind) (out : List ℕ) → KeyOpen false kind [] [] (beginPlaces key p) out
+  unfolding beginPlaces
+  measured-open kind out = record {
+    fill = refl;
+    few = omega arith;
+    good = refl;
+    ascend = refl;
+    counted = omega arith;
+    places-fit = record { block-most = omega arith; entry-most = omega arith; blocks-most = omega arith };
+    room = λ l. never l refl;
+  }
+
+  -- where nothing is laid, no point to come is known
+  pub measured-filling : (kind : Kind) (s′ : Places) (times : List ℤ) (values out : List ℕ) → s′ ≡ beginPlaces key p
+      → writerBlockMost ≤ length times → writerBlockMost ≤ length values → Filling false kind [] s′ times values out
+  unfolding beginPlaces
+  measured-filling kind s′ times values out e in-times in-values = rw e (record { in-times = in-times; in-values = in-values; key = measured-open kind out })
 
 module _ (laying : Bool) (s : Series) (ss : Meaning) (p : Places) (out : List ℕ) (room : laying ≡ true → SeriesRoom (s ∷ ss) (p .block) (p .entry) out) where
   abbrev opened : List ℕ
@@ -123,8 +148,7 @@ module _ (laying : Bool) (s : Series) (ss : Meaning) (p : Places) (out : List �
     begin-filling s′ times values out′ e f in-times in-values = rw (e, f) (record { in-times = in-times; in-values = in-values; key = opened-open })
 
     pub begin-near : Near (beginPlaces (s .key) p .block) (beginPlaces (s .key) p .entry)
-    unfolding beginPlaces
-    begin-near = record { block-near = omega arith; entry-near = omega (arith, good-key s good) }
+    begin-near = opened-near (s .key) p (good-key s good) block-in entry-in
 
   -- ---- it is closed
 

@@ -2,31 +2,24 @@
 --   firstSpot, whole-same, passing-starts   where a pass starts
 --   passing-past, passing-end, passing-ready, next-added   step by step
 use Prim.Native.Nat.{ℕ, _≤_}
-use mathlib.Core.Path.{_≡_, refl, ap, ap₂, sym, subst, _∙_}
+use mathlib.Core.Path.{_≡_, ap, ap₂, sym, subst, _∙_}
 use mathlib.Core.Bool.{Bool, true}
 use mathlib.Core.List.{List, [], _∷_}
 use native.Mathlib.Omega.{arith}
 use lib.IntN.{ℤ}
 use lib.ListN.{length}
 use Rattle.format.specs.Limits.{headerSize, imageMost}
-use Rattle.format.specs.Bytes.{AllBytes}
 use Rattle.format.specs.Choice.{every}
 use Rattle.format.specs.Meaning.{Meaning}
 use Rattle.format.specs.Merge.{merge}
 use Rattle.format.specs.WellFormed.{goodSeries}
-use Rattle.format.specs.File.{readFile}
-use Rattle.format.specs.Refusals.{ok}
 use Rattle.format.proofs.Tests.{both-left, both-right}
-use Rattle.file_laws.proofs.FilesAccepted.{file-accepted}
-use Rattle.merging.proofs.Sorted.{Ascending}
-use Rattle.merging.proofs.Orders.{byKey}
-use Rattle.merging.proofs.Facts.{facts}
 use Rattle.builder.specs.Steps.{Closed, seriesEnd}
 use Rattle.builder.specs.Passes.{SeriesRoom, Past}
 use Rattle.builder.proofs.SeriesPasses.{past-first, series-none}
 use Rattle.feed.specs.declared.Feed.{Feed}
-use Rattle.feed.specs.Feeds.{seriesLeft, Stands, Done, Begun}
-use Rattle.key_merge.specs.Turns.{meaningOf, mergedOf, nextSeries, later}
+use Rattle.feed.specs.Feeds.{seriesLeft}
+use Rattle.key_merge.specs.Turns.{mergedOf, nextSeries, later}
 use Rattle.merge.specs.Adding.{SeriesReady, openClosed, OneAdded, SeriesAddedAs, Lent, Passing, laterClosed, NextAdded, NextAddedAs, PassReady, allClosed}
 use Rattle.merge.specs.declared.Spot.{Spot}
 use Rattle.merge.specs.declared.SeriesAdded.{SeriesAdded}

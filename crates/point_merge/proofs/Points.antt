@@ -28,7 +28,6 @@ use Rattle.feed.proofs.Cells.{points-blocks}
 use Rattle.writer.specs.Adding.{closedKey}
 use Rattle.block_merge.specs.declared.Merged.{Merged}
 use Rattle.block_merge.specs.Cells.{cells, Grown}
-use Rattle.key_merge.specs.Turns.{KeyDone}
 use Rattle.point_merge.specs.declared.PointsAdded.{PointsAdded}
 use Rattle.point_merge.specs.Adding.{Settled, mergedPoints, PointsReady, AllAdded, PointsAddedAs}
 use Rattle.point_merge.proofs.Settles.{passedTo, passed-stands, passed-series}

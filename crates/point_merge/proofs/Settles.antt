@@ -3,7 +3,7 @@
 --   passed-stands, passed-series               a feed with points of its decoded block passed
 use Prim.Native.Nat.{ℕ, _≤_, _<_}
 use mathlib.Core.Path.{_≡_, refl, sym, _∙_}
-use mathlib.Core.List.{List, []}
+use mathlib.Core.List.{List}
 use native.Mathlib.Omega.{arith}
 use lib.IntN.{ℤ}
 use Rattle.feed.specs.declared.Feed.{Feed}

@@ -1,7 +1,5 @@
 // The points of the open key of two images, merged and handed to the builder: block by block, so that each point is
 // moved once. Floor 7: it stands on block_merge, feed, builder and writer.
-ghost use mathlib.Core.Path.{_≡_};
-ghost use Rattle.feed.specs.Feeds.{pointsLeft};
 ghost use Rattle.writer.specs.Adding.{closedKey};
 ghost use Rattle.point_merge.specs.Adding.{SideReady, Settled, mergedPoints, PointsReady, PointsAddedAs};
 use block_merge::Merged;

@@ -1,6 +1,8 @@
 -- The laws of this crate.
 --   Judges   the test that gives a pass up, and the answer to the length of an image
---   Adds     adding the points after a key's first
+--   Results  what is read of a key, part by part
+--   Fills    points that are read into the fill
+--   Adds     adding points that were read
 --   Points   adding all points of a key
 --   Series   adding a series
 --   Passes   a pass over all series
@@ -8,6 +10,8 @@
 --   Writes   the act
 --   Responses   what the program writes
 pub mod Judges
+pub mod Results
+pub mod Fills
 pub mod Adds
 pub mod Points
 pub mod Series

@@ -1,15 +1,16 @@
 -- `merge_points` meets its contract: the points to come and the fill come to what the key came to at first.
-use borrow.Author.Needs.{needs}
-use Prim.Native.Nat.{_+_, _≤_, _<_}
+use Prim.Native.Nat.{ℕ, _+_, _≤_, _<_}
 use mathlib.Core.Path.{_≡_, refl, ap₂, sym, _∙_}
 use mathlib.Core.List.{List}
 use native.Mathlib.Omega.{arith}
+use lib.IntN.{ℤ}
 use lib.ListN.{length}
 use Rattle.format.specs.Limits.{readBlockMost}
 use Rattle.format.specs.Meaning.{Point}
 use Rattle.format.specs.Merge.{mergePoints}
 use Rattle.builder.specs.Passes.{Near}
 use Rattle.feed.specs.declared.Feed.{Feed}
+use Rattle.feed.specs.Feeds.{Done}
 use Rattle.writer.specs.Adding.{closedKey}
 use Rattle.writer.proofs.Judges.{past-both, past-near}
 use Rattle.point_merge.specs.Adding.{mergedPoints}
@@ -85,14 +86,66 @@ module _ (d : tie.After-slice-known6 Inv-loop μ-loop) where
   abbrev y : Feed
   y = d .before .before .before .settle2 .result
 
+  abbrev olderTimes : List ℤ
+  olderTimes = d .before .before .before .before .before .before .before .before .before .settle .last .1 .1 .0
+
+  abbrev olderValues : List ℕ
+  olderValues = d .before .before .before .before .before .before .before .before .before .settle .last .1 .1 .1 .0
+
+  abbrev newerTimes : List ℤ
+  newerTimes = d .before .before .before .settle2 .last .1 .1 .0
+
+  abbrev newerValues : List ℕ
+  newerValues = d .before .before .before .settle2 .last .1 .1 .1 .0
+
   first-in : (x .next ≤ x .count) × (x .count ≤ readBlockMost)
   first-in = let s = d .before .before .before .before .before .before .before .before .before .settle .ensures .stands in (s .next-most, s .count-most)
 
   second-in : (y .next ≤ y .count) × (y .count ≤ readBlockMost)
   second-in = let s = d .before .before .before .settle2 .ensures .stands in (s .next-most, s .count-most)
 
+  first-end : x .count ≤ x .next → Done x
+  first-end = d .before .before .before .before .before .before .before .before .before .settle .ensures .done
+
+  second-end : y .count ≤ y .next → Done y
+  second-end = d .before .before .before .settle2 .ensures .done
+
+  older-times : length olderTimes ≡ length (start .args .older-times .now)
+  older-times = d .before .before .before .before .before .before .before .before .before .settle .kept .1 .1 .0 ∙ here .loop .inv .1
+
+  older-values : length olderValues ≡ length (start .args .older-values .now)
+  older-values = d .before .before .before .before .before .before .before .before .before .settle .kept .1 .1 .1 .0 ∙ here .loop .inv .2
+
+  newer-times : length newerTimes ≡ length (start .args .newer-times .now)
+  newer-times = d .before .before .before .settle2 .kept .1 .1 .0 ∙ here .loop .inv .3
+
+  newer-values : length newerValues ≡ length (start .args .newer-values .now)
+  newer-values = d .before .before .before .settle2 .kept .1 .1 .1 .0 ∙ here .loop .inv .4
+
   near : Near (here .loop .places .block) (here .loop .places .entry)
   near = past-near _ _ (sym (d .before .before .before .before .before .before .before .before .before .before .before .before .before .past .ensures) ∙ d .before .before .before .before .before .before .before .before .before .before .before .before .if1 .left)
+
+  settled :
+      let a = start .args in
+      let l = here .loop in
+      Merging (a .older .now) (a .old) (a .newer .now) (a .new) (a .laying) (a .kind)
+      (closedKey (a .laying) (a .kind) (mergedPoints (a .older .now) (a .old) (a .older-times .now) (a .older-values .now) (a .newer .now) (a .new) (a .newer-times .now) (a .newer-values .now)) (a .opened) (a .times .now) (a .values .now) (a .out .now))
+      x olderTimes olderValues y newerTimes newerValues (l .places) (l .times) (l .values) (l .out)
+  settled = merging-settled (here .loop .inv .0) (d .before .before .before .before .before .before .before .before .before .settle .ensures) (d .before .before .before .settle2 .ensures)
+
+-- the fill grew
+module _ (e : tie.After-grow Inv-loop μ-loop) where
+  abbrev both : tie.After-slice-known6 Inv-loop μ-loop
+  both = e .before .before .before .before .before .before .before .before .before .before .before .before
+
+  some : x both .next + y both .next < x both .count + y both .count
+  some = omega (arith, first-in both .0, second-in both .0, e .before .before .before .before .before .before .before .if2 .left)
+
+  same-times : length (e .grow .last .1 .1 .1 .1 .1 .1 .0) ≡ length (here both .loop .times)
+  same-times = e .grow .kept .1 .1 .1 .1 .1 .1 .0
+
+  same-values : length (e .grow .last .1 .1 .1 .1 .1 .1 .1 .0) ≡ length (here both .loop .values)
+  same-values = e .grow .kept .1 .1 .1 .1 .1 .1 .1 .0
 
 add-if2 : tie.Need-add-if2 Inv-loop μ-loop
 add-if2 c = let d = c .before .before in omega (arith, first-in d .0, first-in d .1, second-in d .0, second-in d .1)
@@ -101,16 +154,16 @@ add-if2-2 : tie.Need-add-if2-2 Inv-loop μ-loop
 add-if2-2 c = let d = c .before .before .before .before in omega (arith, first-in d .1, second-in d .1)
 
 same-length-8 : tie.Need-same-length-8 Inv-loop μ-loop
-same-length-8 c = c .before .before .before .before .before .before .before .before .before .before .before .before .before .before .settle .kept .1 .1 .0 ∙ c .before .before .before .before .before .before .before .before .before .before .before .before .before .before .before .before .before .before .before .loop .inv .1
+same-length-8 c = older-times (c .before .before .before .before .before)
 
 same-length-9 : tie.Need-same-length-9 Inv-loop μ-loop
-same-length-9 c = c .before .before .before .before .before .before .before .before .before .before .before .before .before .before .settle .kept .1 .1 .1 .0 ∙ c .before .before .before .before .before .before .before .before .before .before .before .before .before .before .before .before .before .before .before .loop .inv .2
+same-length-9 c = older-values (c .before .before .before .before .before)
 
 same-length-10 : tie.Need-same-length-10 Inv-loop μ-loop
-same-length-10 c = c .before .before .before .before .before .before .before .before .settle2 .kept .1 .1 .0 ∙ c .before .before .before .before .before .before .before .before .before .before .before .before .before .before .before .before .before .before .before .loop .inv .3
+same-length-10 c = newer-times (c .before .before .before .before .before)
 
 same-length-11 : tie.Need-same-length-11 Inv-loop μ-loop
-same-length-11 c = c .before .before .before .before .before .before .before .before .settle2 .kept .1 .1 .1 .0 ∙ c .before .before .before .before .before .before .before .before .before .before .before .before .before .before .before .before .before .before .before .loop .inv .4
+same-length-11 c = newer-values (c .before .before .before .before .before)
 
 same-length-12 : tie.Need-same-length-12 Inv-loop μ-loop
 same-length-12 c = c .before .before .before .before .before .before .before .before .before .before .before .before .before .before .before .before .before .before .before .loop .inv .5
@@ -126,66 +179,53 @@ returns-2 c =
     let d = c .before .before .before .before .before in
     let first = first-in d .0 in
     let second = second-in d .0 in
-    merging-ends (merging-settled (d .before .before .before .before .before .before .before .before .before .before .before .before .before .before .loop .inv .0) (d .before .before .before .before .before .before .before .before .before .settle .ensures) (d .before .before .before .settle2 .ensures)) (d .before .before .before .before .before .before .before .before .before .settle .ensures .done) (d .before .before .before .settle2 .ensures .done) (omega (arith, c .if2 .taken)) (omega (arith, c .if2 .taken))
+    merging-ends (settled d) (first-end d) (second-end d) (omega (arith, c .if2 .taken)) (omega (arith, c .if2 .taken))
 
 grow-requires : tie.Need-grow-requires Inv-loop μ-loop
 grow-requires c κs =
     let d = c .before .before .before .before .before .before .before .before .before .before .before in
-    let l = here d .loop in
     let p = start d .pre in
-    let f = l .inv .0 .filling in
-    let o = d .before .before .before .before .before .before .before .before .before .settle .kept .1 .1 in
-    let n = d .before .before .before .settle2 .kept .1 .1 in (
+    let f = here d .loop .inv .0 .filling in (
       record {
         order = omega (arith, first-in d .0);
-        in-times = omega (arith, first-in d .1, o .0, l .inv .1, p .older-ready .in-times);
-        in-values = omega (arith, first-in d .1, o .1 .0, l .inv .2, p .older-ready .in-values);
+        in-times = omega (arith, first-in d .1, older-times d, p .older-ready .in-times);
+        in-values = omega (arith, first-in d .1, older-values d, p .older-ready .in-values);
       },
       record {
         order = omega (arith, second-in d .0);
-        in-times = omega (arith, second-in d .1, n .0, l .inv .3, p .newer-ready .in-times);
-        in-values = omega (arith, second-in d .1, n .1 .0, l .inv .4, p .newer-ready .in-values);
+        in-times = omega (arith, second-in d .1, newer-times d, p .newer-ready .in-times);
+        in-values = omega (arith, second-in d .1, newer-values d, p .newer-ready .in-values);
       },
       record { order = omega (arith, f .key .fill, f .key .few); in-times = f .in-times; in-values = f .in-values },
     )
 
 extend-requires : tie.Need-extend-requires Inv-loop μ-loop
 extend-requires c κs =
-    let d = c .before .before .before .before .before .before .before .before .before .before .before .before .before .before .before .before .before .before in
-    let grow = c .before .before .before .before .before .before .grow in
-    let first = first-in d .0 in
-    let second = second-in d .0 in
-    let some : x d .next + y d .next < x d .count + y d .count = omega (arith, c .before .before .before .before .before .before .before .before .before .before .before .before .before .if2 .left) in
-    grown-fits (merging-settled (d .before .before .before .before .before .before .before .before .before .before .before .before .before .before .loop .inv .0) (d .before .before .before .before .before .before .before .before .before .settle .ensures) (d .before .before .before .settle2 .ensures)) (d .before .before .before .before .before .before .before .before .before .settle .ensures .done) (d .before .before .before .settle2 .ensures .done) (grow .ensures) some (grow .kept .1 .1 .1 .1 .1 .1 .0) (grow .kept .1 .1 .1 .1 .1 .1 .1 .0)
+    let e = c .before .before .before .before .before .before in
+    let d = both e in
+    grown-fits (settled d) (first-end d) (second-end d) (e .grow .ensures) (some e) (same-times e) (same-values e)
 
 loop-less : tie.Need-loop-less Inv-loop μ-loop
 loop-less c =
-    let d = c .before .before .before .before .before .before .before .before .before .before .before .before .before .before .before .before .before .before .before .before .before in
-    let grow = c .before .before .before .before .before .before .before .before .before .grow in
-    let first = first-in d .0 in
-    let second = second-in d .0 in
-    let some : x d .next + y d .next < x d .count + y d .count = omega (arith, c .before .before .before .before .before .before .before .before .before .before .before .before .before .before .before .before .if2 .left) in
-    let less = grown-less (merging-settled (d .before .before .before .before .before .before .before .before .before .before .before .before .before .before .loop .inv .0) (d .before .before .before .before .before .before .before .before .before .settle .ensures) (d .before .before .before .settle2 .ensures)) (d .before .before .before .before .before .before .before .before .before .settle .ensures .done) (d .before .before .before .settle2 .ensures .done) (grow .ensures) some (grow .kept .1 .1 .1 .1 .1 .1 .0) (grow .kept .1 .1 .1 .1 .1 .1 .1 .0) in
+    let e = c .before .before .before .before .before .before .before .before .before in
+    let d = both e in
     let same = ap₂ (λ (ps qs : List Point). length (mergePoints ps qs)) (d .before .before .before .before .before .before .before .before .before .settle .ensures .points) (d .before .before .before .settle2 .ensures .points) in
-    omega (arith, less, same)
+    omega (arith, same, grown-less (settled d) (first-end d) (second-end d) (e .grow .ensures) (some e) (same-times e) (same-values e))
 
 loop-again : tie.Need-loop-again Inv-loop μ-loop
 loop-again c =
-    let d = c .before .before .before .before .before .before .before .before .before .before .before .before .before .before .before .before .before .before .before .before .before in
-    let grow = c .before .before .before .before .before .before .before .before .before .grow in
-    let first = first-in d .0 in
-    let second = second-in d .0 in
-    let some : x d .next + y d .next < x d .count + y d .count = omega (arith, c .before .before .before .before .before .before .before .before .before .before .before .before .before .before .before .before .if2 .left) in
+    let e = c .before .before .before .before .before .before .before .before .before in
+    let d = both e in
     let l = here d .loop in
     let extend = c .before .before .extend in (
-      grown-goes-on (merging-settled (d .before .before .before .before .before .before .before .before .before .before .before .before .before .before .loop .inv .0) (d .before .before .before .before .before .before .before .before .before .settle .ensures) (d .before .before .before .settle2 .ensures)) (d .before .before .before .before .before .before .before .before .before .settle .ensures .done) (d .before .before .before .settle2 .ensures .done) (grow .ensures) some (grow .kept .1 .1 .1 .1 .1 .1 .0) (grow .kept .1 .1 .1 .1 .1 .1 .1 .0) (extend .ensures .0) (extend .ensures .1) (near d),
-      d .before .before .before .before .before .before .before .before .before .settle .kept .1 .1 .0 ∙ l .inv .1,
-      d .before .before .before .before .before .before .before .before .before .settle .kept .1 .1 .1 .0 ∙ l .inv .2,
-      d .before .before .before .settle2 .kept .1 .1 .0 ∙ l .inv .3,
-      d .before .before .before .settle2 .kept .1 .1 .1 .0 ∙ l .inv .4,
+      grown-goes-on (settled d) (first-end d) (second-end d) (e .grow .ensures) (some e) (same-times e) (same-values e) (extend .ensures .0) (extend .ensures .1) (near d),
+      older-times d,
+      older-values d,
+      newer-times d,
+      newer-values d,
       extend .kept .0 ∙ l .inv .5,
-      grow .kept .1 .1 .1 .1 .1 .1 .0 ∙ l .inv .6,
-      grow .kept .1 .1 .1 .1 .1 .1 .1 .0 ∙ l .inv .7,
+      same-times e ∙ l .inv .6,
+      same-values e ∙ l .inv .7,
     )
 
 pub merge-points-spec : {M : Type 1} → statement M
