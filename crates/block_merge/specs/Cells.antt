@@ -3,8 +3,9 @@
 --   step, NextLaid   the next point is laid, and which sides have passed it
 --   merged         the points of two blocks merged, with others after each
 --   Within         places of a block or of the fill
+--   Least          the less of two
 --   Moved, RunMoved, BlocksMoved   points of two blocks went into the fill
---   Copied         points of one block went into the fill
+--   Copied, BlockCopied   points of one block went into the fill
 --   Grown          the one or the other
 use Prim.Native.Nat.{ℕ, _+_, _-_, _≤_, _<_}
 use mathlib.Core.Path.{_≡_}
@@ -68,7 +69,7 @@ pub record RunMoved (olderTimes : List ℤ) (olderValues : List ℕ) (iEnd : ℕ
   pub moved : Moved olderTimes olderValues iEnd newerTimes newerValues jEnd (at .older) (at .newer) (at .filled) times values (to .older) (to .newer) (to .filled) times′ values′
   pub count : to .filled ≡ at .filled + more
 
--- how many points a run can have
+-- the less of two: how many points can go
 pub record Least (a b r : ℕ) : Type 0 where
   pub first : r ≤ a
   pub second : r ≤ b
@@ -88,6 +89,11 @@ pub record Copied (sourceTimes : List ℤ) (sourceValues : List ℕ) (from end :
   pub same : (ps : List Point)
       → filled (n + more) times′ values′ ++ (cells (from + more) end sourceTimes sourceValues ++ ps)
       ≡ filled n times values ++ (cells from end sourceTimes sourceValues ++ ps)
+
+-- the same, by as many points as the block has left and the fill has room for
+pub record BlockCopied (sourceTimes : List ℤ) (sourceValues : List ℕ) (from end : ℕ) (times : List ℤ) (values : List ℕ) (n more : ℕ) (times′ : List ℤ) (values′ : List ℕ) : Type 0 where
+  pub copied : Copied sourceTimes sourceValues from end times values n more times′ values′
+  pub count : Least (end - from) (writerBlockMost - n) more
 
 -- ---- points of two blocks, or of one where the other side has none left at all
 

@@ -3,7 +3,7 @@
 ghost use Prim.Native.Nat.{_<_};
 ghost use lib.ListN.{length};
 ghost use Rattle.format.specs.Limits.{writerBlockMost};
-ghost use Rattle.block_merge.specs.Cells.{NextLaid, Within, RunMoved, Least, BlocksMoved, Copied, Grown};
+ghost use Rattle.block_merge.specs.Cells.{NextLaid, Within, RunMoved, Least, BlocksMoved, BlockCopied, Grown};
 use format::WRITER_BLOCK_MOST;
 
 // Which points come next, of the older block and of the newer.
@@ -104,6 +104,7 @@ fn merge_run(
     }
 }
 
+// The less of two.
 fn least(a: usize, b: usize) -> usize
     ensures { λ r. ⌜ Least a b r ⌝ }
 {
@@ -148,8 +149,8 @@ fn merge_blocks(
     }
 }
 
-// Copies `more` points of a block into the fill.
-fn copy_run(
+// Copies points of a block into the fill, as many as it has left and the fill has room for: their number.
+fn copy(
     source_times: &[i64],
     source_values: &[u64],
     from: usize,
@@ -157,11 +158,11 @@ fn copy_run(
     times: &mut [i64],
     values: &mut [u64],
     filled: usize,
-    more: usize,
-)
-    requires { ⌜ Within (now «source_times») (now «source_values») from more end × Within (now times) (now values) filled more writerBlockMost ⌝ }
-    ensures { λ r. ⌜ Copied (now («source_times» .entry)) (now («source_values» .entry)) from end (now (times .entry)) (now (values .entry)) filled more (now (times .exit)) (now (values .exit)) ⌝ }
+) -> usize
+    requires { ⌜ Within (now «source_times») (now «source_values») from 0 end × Within (now times) (now values) filled 0 writerBlockMost ⌝ }
+    ensures { λ r. ⌜ BlockCopied (now («source_times» .entry)) (now («source_values» .entry)) from end (now (times .entry)) (now (values .entry)) filled r (now (times .exit)) (now (values .exit)) ⌝ }
 {
+    let more = least(end - from, WRITER_BLOCK_MOST - filled);
     let mut i = 0;
     while i < more {
         let time = source_times[from + i];
@@ -169,6 +170,7 @@ fn copy_run(
         values[filled + i] = source_values[from + i];
         i += 1;
     }
+    more
 }
 
 // Merges points of two blocks into the fill. Where a block has no point left, its side has none left at all, and the
@@ -190,10 +192,8 @@ pub fn grow(
     let older = at.older;
     let newer = at.newer;
     let filled = at.filled;
-    let room = WRITER_BLOCK_MOST - filled;
     if older == older_end {
-        let more = least(newer_end - newer, room);
-        copy_run(
+        let more = copy(
             newer_times,
             newer_values,
             newer,
@@ -201,7 +201,6 @@ pub fn grow(
             times,
             values,
             filled,
-            more,
         );
         return Merged {
             older,
@@ -210,8 +209,7 @@ pub fn grow(
         };
     }
     if newer == newer_end {
-        let more = least(older_end - older, room);
-        copy_run(
+        let more = copy(
             older_times,
             older_values,
             older,
@@ -219,7 +217,6 @@ pub fn grow(
             times,
             values,
             filled,
-            more,
         );
         return Merged {
             older: older + more,

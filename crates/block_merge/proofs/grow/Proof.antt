@@ -5,23 +5,14 @@ use Rattle.block_merge.proofs.Grows.{grown-newer, grown-older, grown-bo
 use Rattle.block_merge.proofs.grow.Statement.{statement}
 use Rattle.block_merge.proofs.grow.Tie as tie
 
-sub-room : tie.Need-sub-room
-sub-room c = search needs
+copy-requires : tie.Need-copy-requires
+copy-requires c κs = search needs
 
-sub-least : tie.Need-sub-least
-sub-least c = search needs
+add-t20 : tie.Need-add-t20
+add-t20 c = search needs
 
-least-requires : tie.Need-least-requires
-least-requires c κs = search needs
-
-copy-run-requires : tie.Need-copy-run-requires
-copy-run-requires c κs = search needs
-
-add-t17 : tie.Need-add-t17
-add-t17 c = search needs
-
-add-t23 : tie.Need-add-t23
-add-t23 c = search needs
+add-t21 : tie.Need-add-t21
+add-t21 c = search needs
 
 same-length : tie.Need-same-length
 same-length c = search needs
@@ -31,23 +22,17 @@ same-length-2 c = search needs
 
 returns : tie.Need-returns
 returns c =
-    let (o, n, f) = c .before .before .before .before .before .before .before .before .before .before .before .pre in
-    grown-newer _ _ _ _ _ _ _ _ _ _ _ (omega (arith, o .order)) (omega (arith, n .order)) (omega (arith, f .order)) _ (c .before .before .before .before .before .before .before .if1 .taken) (c .before .before .before .before .before .before .least .ensures) (c .before .before .before .copy-run .ensures)
+    let (o, n, f) = c .before .before .before .before .before .before .before .before .before .before .pre in
+    grown-newer _ _ _ _ _ _ _ _ _ _ _ (omega (arith, o .order)) (omega (arith, n .order)) (omega (arith, f .order)) _ (c .before .before .before .before .before .before .if1 .taken) (c .before .before .before .copy .ensures)
 
-sub-least-2 : tie.Need-sub-least-2
-sub-least-2 c = search needs
+copy-requires-2 : tie.Need-copy-requires-2
+copy-requires-2 c κs = search needs
 
-least-requires-2 : tie.Need-least-requires-2
-least-requires-2 c κs = search needs
+add-t26 : tie.Need-add-t26
+add-t26 c = search needs
 
-copy-run-requires-2 : tie.Need-copy-run-requires-2
-copy-run-requires-2 c κs = search needs
-
-add-t24 : tie.Need-add-t24
-add-t24 c = search needs
-
-add-t30 : tie.Need-add-t30
-add-t30 c = search needs
+add-t27 : tie.Need-add-t27
+add-t27 c = search needs
 
 same-length-3 : tie.Need-same-length-3
 same-length-3 c = search needs
@@ -57,8 +42,8 @@ same-length-4 c = search needs
 
 returns-2 : tie.Need-returns-2
 returns-2 c =
-    let (o, n, f) = c .before .before .before .before .before .before .before .before .before .before .before .before .pre in
-    grown-older _ _ _ _ _ _ _ _ _ _ _ (omega (arith, o .order)) (omega (arith, n .order)) (omega (arith, f .order)) _ (c .before .before .before .before .before .before .before .if2 .taken) (c .before .before .before .before .before .before .least2 .ensures) (c .before .before .before .copy-run2 .ensures)
+    let (o, n, f) = c .before .before .before .before .before .before .before .before .before .before .before .pre in
+    grown-older _ _ _ _ _ _ _ _ _ _ _ (omega (arith, o .order)) (omega (arith, n .order)) (omega (arith, f .order)) _ (c .before .before .before .before .before .before .if2 .taken) (c .before .before .before .copy2 .ensures)
 
 merge-blocks-requires : tie.Need-merge-blocks-requires
 merge-blocks-requires c κs = search needs
@@ -78,20 +63,15 @@ pub grow-spec : {M : Type 1} → statement M
 grow-spec =
     tie.close
     (tie.spec
-    sub-room
-    sub-least
-    least-requires
-    copy-run-requires
-    add-t17
-    add-t23
+    copy-requires
+    add-t20
+    add-t21
     same-length
     same-length-2
     returns
-    sub-least-2
-    least-requires-2
-    copy-run-requires-2
-    add-t24
-    add-t30
+    copy-requires-2
+    add-t26
+    add-t27
     same-length-3
     same-length-4
     returns-2

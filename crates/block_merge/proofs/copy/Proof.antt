@@ -1,4 +1,5 @@
--- `copy_run` meets its contract: the fill and the points to come stay the same.
+-- `copy` meets its contract: the fill and the points to come stay the same.
+use borrow.Author.Needs.{needs}
 use Prim.Native.Nat.{_+_, _-_, _≤_, _<_}
 use mathlib.Core.Path.{_≡_, refl}
 use native.Mathlib.Omega.{arith}
@@ -6,10 +7,11 @@ use lib.IntN.{pos}
 use lib.ListN.{length, getD, length-set}
 use mir.Syntax.{w64}
 use mir.ValLaws.{toZ-ofZ}
-use Rattle.block_merge.specs.Cells.{Copied}
+use Rattle.format.specs.Limits.{writerBlockMost}
+use Rattle.block_merge.specs.Cells.{Least, Copied}
 use Rattle.block_merge.proofs.Moves.{copied-none, copied-next}
-use Rattle.block_merge.proofs.copy_run.Statement.{statement}
-use Rattle.block_merge.proofs.copy_run.Tie as tie
+use Rattle.block_merge.proofs.copy.Statement.{statement}
+use Rattle.block_merge.proofs.copy.Tie as tie
 
 abbrev Inv-loop : tie.InvT-loop
 Inv-loop sourceTimes sourceValues from end times₀ values₀ n more i₀ times values i =
@@ -19,25 +21,37 @@ Inv-loop sourceTimes sourceValues from end times₀ values₀ n more i₀ times 
 abbrev μ-loop : tie.MeasureT-loop
 μ-loop sourceTimes sourceValues from end times₀ values₀ n more i₀ times values i = more - i
 
+sub-least : tie.Need-sub-least Inv-loop μ-loop
+sub-least c = omega (arith, c .before .before .pre .0 .order)
+
+sub-least-2 : tie.Need-sub-least-2 Inv-loop μ-loop
+sub-least-2 c = omega (arith, c .before .before .pre .1 .order)
+
+least-requires : tie.Need-least-requires Inv-loop μ-loop
+least-requires c κs = search needs
+
 loop-holds : tie.Need-loop-holds Inv-loop μ-loop
 loop-holds c = (copied-none _ _ _ _ _ _ _, omega arith, refl, refl)
 
 -- a point is left in the block, and room in the fill
 module _ (d : tie.In-loop Inv-loop μ-loop) where
   abbrev start : tie.Start Inv-loop μ-loop
-  start = d .before .before
+  start = d .before .before .before .before .before
+
+  abbrev count : Least (start .args .end - start .args .from) (writerBlockMost - start .args .filled) (d .before .before .least .result)
+  count = d .before .before .least .ensures
 
   abbrev here : tie.At-loop Inv-loop μ-loop
   here = d .before
 
   inside : start .args .from + here .loop .i < start .args .end
-  inside = omega (arith, d .loop-test .taken, start .pre .0 .order)
+  inside = omega (arith, d .loop-test .taken, start .pre .0 .order, count .first)
 
   in-times : start .args .filled + here .loop .i < length (here .loop .times)
-  in-times = omega (arith, d .loop-test .taken, here .loop .inv .2, start .pre .1 .order, start .pre .1 .in-times)
+  in-times = omega (arith, d .loop-test .taken, here .loop .inv .2, start .pre .1 .order, count .second, start .pre .1 .in-times)
 
   in-values : start .args .filled + here .loop .i < length (here .loop .values)
-  in-values = omega (arith, d .loop-test .taken, here .loop .inv .3, start .pre .1 .order, start .pre .1 .in-values)
+  in-values = omega (arith, d .loop-test .taken, here .loop .inv .3, start .pre .1 .order, count .second, start .pre .1 .in-values)
 
 add-time : tie.Need-add-time Inv-loop μ-loop
 add-time c = omega (arith, inside c, start c .pre .0 .in-times, start c .pre .0 .in-values)
@@ -103,15 +117,19 @@ same-length-2 c = c .before .loop .inv .3
 returns : tie.Need-returns Inv-loop μ-loop
 returns c =
     let l = c .before .loop in
-    let all : l .i ≡ c .before .before .args .more = omega (arith, l .inv .1) in
-    rw (← all) (l .inv .0)
+    let least = c .before .before .least in
+    let all : l .i ≡ least .result = omega (arith, l .inv .1) in
+    record { copied = rw (← all) (l .inv .0); count = least .ensures }
 
-pub copy-run-spec : {M : Type 1} → statement M
-copy-run-spec =
+pub copy-spec : {M : Type 1} → statement M
+copy-spec =
     tie.close
     (tie.spec
     Inv-loop
     μ-loop
+    sub-least
+    sub-least-2
+    least-requires
     loop-holds
     add-time
     mul-time
