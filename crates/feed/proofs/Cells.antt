@@ -1,30 +1,23 @@
 -- The decoded block in the cells.
 --   held-none       where no point is left in it, none is held
---   held-next       the next point, and those after it
 --   held-block      right after decoding, the points of the block are held
 --   points-blocks   where none is held, the points of the key are those of its blocks
-use Prim.Native.Nat.{ℕ, _-_, _≤_, _<_}
+--   block-after     where none is held, the next block holds those to come
+use Prim.Native.Nat.{ℕ, _-_, _≤_}
 use mathlib.Core.Path.{_≡_}
-use mathlib.Core.List.{List, [], _∷_}
+use mathlib.Core.List.{List, []}
 use native.Mathlib.Omega.{arith}
-use lib.IntN.{ℤ, pos}
-use lib.ListN.{length, take, getD}
-use Rattle.format.specs.Meaning.{Point, pointOf}
+use lib.IntN.{ℤ}
+use lib.ListN.{take}
+use Rattle.format.specs.Meaning.{Point}
 use Rattle.format.specs.Block.{pointsFrom}
-use Rattle.format.proofs.Parts.{part-next}
 use Rattle.feed.specs.declared.Feed.{Feed}
-use Rattle.feed.specs.Feeds.{blocksLeft, held, pointsLeft, advanced}
+use Rattle.feed.specs.Feeds.{blocksLeft, held, pointsLeft, BlockOpened}
 
 module _ (f : Feed) (times : List ℤ) (values : List ℕ) where
   pub held-none : f .count ≤ f .next → held f times values ≡ []
   unfolding held
   held-none h = let none : f .count - f .next ≡ 0 = omega arith in rw none
-
-  pub held-next : f .next < f .count → f .count ≤ length times → f .count ≤ length values
-      → held f times values ≡ pointOf (getD times (f .next) (pos 0)) (getD values (f .next) 0) ∷ held (advanced f) times values
-  unfolding held
-  held-next h in-times in-values =
-      rw (part-next times (pos 0) (f .next) (f .count) h in-times, part-next values 0 (f .next) (f .count) h in-values)
 
   pub held-block : (ps : List Point) → f .next ≡ 0 → pointsFrom (take (f .count) times) (take (f .count) values) ≡ ps → held f times values ≡ ps
   unfolding held
@@ -33,3 +26,8 @@ module _ (f : Feed) (times : List ℤ) (values : List ℕ) where
   pub points-blocks : (image : List ℕ) → f .count ≤ f .next → pointsLeft image f times values ≡ blocksLeft image f
   unfolding pointsLeft
   points-blocks image h = rw (held-none h)
+
+  pub block-after : (image : List ℕ) (newTimes : List ℤ) (newValues : List ℕ) (g : Feed) → f .count ≤ f .next → BlockOpened image f newTimes newValues g
+      → pointsLeft image f times values ≡ pointsLeft image g newTimes newValues
+  unfolding pointsLeft
+  block-after image newTimes newValues g none b = rw (held-none none) (b .points)

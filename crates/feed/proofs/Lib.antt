@@ -4,12 +4,10 @@
 --   Cells      the decoded block in the cells
 --   Keys       the first feed, and the next key
 --   Blocks     the next block
---   Points     the next point
 --   Counts     counting the points of a key
 pub mod Readings
 pub mod Standing
 pub mod Cells
 pub mod Keys
 pub mod Blocks
-pub mod Points
 pub mod Counts

@@ -10,7 +10,7 @@
 --   Stands         a feed stands where a walk over an accepted image stands
 --   Done           the open key has no point left
 --   pastBlock      the feed after all points of the decoded block
---   Begun, OnKey, OnBlock, OnPoint   what the first feed and each step have
+--   Begun, OnKey, OnBlock   what the first feed and each step have
 use Prim.Native.Nat.{ℕ, _+_, _-_, _≤_, _<_}
 use mathlib.Core.Path.{_≡_}
 use mathlib.Core.List.{List, [], _∷_, _++_}
@@ -20,7 +20,7 @@ use Rattle.format.specs.declared.Entry.{Entry}
 use Rattle.format.specs.Limits.{readBlockMost}
 use Rattle.format.specs.Refusals.{Result, ok}
 pub use Rattle.format.specs.Refusals.{readOr}
-use Rattle.format.specs.Meaning.{Point, pointOf, Series, Meaning}
+use Rattle.format.specs.Meaning.{Point, Series, Meaning}
 use Rattle.format.specs.Block.{pointsFrom}
 use Rattle.format.specs.Index.{IndexKey}
 use Rattle.format.specs.File.{indexStart, checkFrame, readBlocks, readSeries, readFile}
@@ -28,7 +28,6 @@ use Rattle.index.specs.Cursors.{keyAt, rest, Sound}
 use Rattle.feed.specs.declared.Feed.{Feed}
 use Rattle.feed.specs.declared.NextKey.{NextKey}
 use Rattle.feed.specs.declared.NextBlock.{NextBlock}
-use Rattle.feed.specs.declared.NextPoint.{NextPoint}
 use Rattle.index.specs.Frames.{indexPart}
 
 -- the open key
@@ -126,28 +125,3 @@ OnBlock image f times values NextBlock.End = (f .cursor .left ≡ 0) × (blocksL
 -- the feed after all points of the decoded block
 abbrev pub pastBlock : Feed → Feed
 pastBlock f = record { start = f .start; cursor = f .cursor; next = 0; count = 0 }
-
--- ---- the next point
-
--- the feed past a point of the decoded block
-abbrev pub advanced : Feed → Feed
-advanced f = record { start = f .start; cursor = f .cursor; next = f .next + 1; count = f .count }
-
--- the feed g past the next point p
-pub record PointTaken (image : List ℕ) (f : Feed) (times : List ℤ) (values : List ℕ) (newTimes : List ℤ) (newValues : List ℕ) (p : Point) (g : Feed) : Type 0 where
-  pub stands : Stands image g
-  pub kept : Kept image f g
-  pub points : pointsLeft image f times values ≡ p ∷ pointsLeft image g newTimes newValues
-
--- the feed g further on, with the same points to come
-pub record BlockTaken (image : List ℕ) (f : Feed) (times : List ℤ) (values : List ℕ) (newTimes : List ℤ) (newValues : List ℕ) (g : Feed) : Type 0 where
-  pub stands : Stands image g
-  pub kept : Kept image f g
-  pub further : f .cursor .at .0 < g .cursor .at .0
-  pub points : pointsLeft image f times values ≡ pointsLeft image g newTimes newValues
-
-abbrev pub OnPoint : List ℕ → Feed → (times : List ℤ) → (values : List ℕ) → (newTimes : List ℤ) → (newValues : List ℕ) → NextPoint → Type 0
-OnPoint image f times values newTimes newValues (NextPoint.Point time pattern) =
-    PointTaken image f times values newTimes newValues (pointOf time pattern) (advanced f)
-OnPoint image f times values newTimes newValues (NextPoint.Block g) = BlockTaken image f times values newTimes newValues g
-OnPoint image f times values newTimes newValues NextPoint.End = Done f × (pointsLeft image f times values ≡ [])

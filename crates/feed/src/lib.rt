@@ -17,7 +17,7 @@ ghost use Rattle.format.specs.File.{blockOf, accepted};
 ghost use Rattle.block.specs.declared.BlockPoints.{BlockPoints};
 ghost use Rattle.block.specs.Answers.{blockAnswer, PointsLaid};
 ghost use Rattle.index.specs.Frames.{indexPart};
-ghost use Rattle.feed.specs.Feeds.{keyOf, blocksLeft, pastBlock, Stands, Done, Begun, OnKey, OnBlock, OnPoint};
+ghost use Rattle.feed.specs.Feeds.{keyOf, blocksLeft, pastBlock, Stands, Done, Begun, OnKey, OnBlock};
 
 // Where a feed stands in an image.
 pub struct Feed {
@@ -39,16 +39,6 @@ pub enum NextKey {
 // The next block of the open key is decoded, or there is none.
 pub enum NextBlock {
     Block(Feed),
-    End,
-}
-
-// What comes next in the open key.
-pub enum NextPoint {
-    // A point of the decoded block; the caller steps past it, to `next` + 1.
-    Point { time: i64, pattern: u64 },
-    // The next block is decoded, and the feed stands at its first point.
-    Block(Feed),
-    // No point is left.
     End,
 }
 
@@ -195,22 +185,4 @@ pub fn count_points(image: &[u8], feed: Feed) -> usize
         cursor = on;
     }
     count
-}
-
-// The next point of the open key, or the next block where all points of the decoded one were taken.
-pub fn next_point(image: &[u8], feed: Feed, times: &mut [i64], values: &mut [u64]) -> NextPoint
-    requires { ⌜ Stands (now image) feed × (readBlockMost ≤ length (now times)) × (readBlockMost ≤ length (now values)) ⌝ }
-    ensures { λ r. ⌜ OnPoint (now (image .entry)) feed (now (times .entry)) (now (values .entry)) (now (times .exit)) (now (values .exit)) r ⌝ }
-{
-    let at = feed.next;
-    if at < feed.count {
-        return NextPoint::Point {
-            time: times[at],
-            pattern: values[at],
-        };
-    }
-    match next_block(image, feed, times, values) {
-        NextBlock::Block(on) => NextPoint::Block(on),
-        NextBlock::End => NextPoint::End,
-    }
 }

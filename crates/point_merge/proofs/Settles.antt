@@ -8,8 +8,7 @@ use native.Mathlib.Omega.{arith}
 use lib.IntN.{ℤ}
 use Rattle.feed.specs.declared.Feed.{Feed}
 use Rattle.feed.specs.Feeds.{entriesLeft, keysLeft, blocksLeft, seriesLeft, Stands, BlockOpened}
-use Rattle.feed.proofs.Cells.{points-blocks}
-use Rattle.feed.proofs.Points.{block-after}
+use Rattle.feed.proofs.Cells.{points-blocks, block-after}
 use Rattle.point_merge.specs.Adding.{Settled}
 
 module _ (image : List ℕ) (f : Feed) (times : List ℤ) (values : List ℕ) where
@@ -18,14 +17,12 @@ module _ (image : List ℕ) (f : Feed) (times : List ℤ) (values : List ℕ) wh
 
   module _ (none : f .count ≤ f .next) (times′ : List ℤ) (values′ : List ℕ) where
     pub settled-block : (g : Feed) → BlockOpened image f times′ values′ g → Settled image f times values g times′ values′
-    settled-block g b =
-        let taken = block-after image f g times times′ values values′ none b in
-        record {
-          stands = taken .stands;
-          series = taken .kept .series;
-          done = λ (used : g .count ≤ g .next). absurd (omega (arith, b .from, b .some));
-          points = sym (taken .points);
-        }
+    settled-block g b = record {
+      stands = b .stands;
+      series = b .kept .series;
+      done = λ (used : g .count ≤ g .next). absurd (omega (arith, b .from, b .some));
+      points = sym (block-after f times values image times′ values′ g none b);
+    }
 
     pub settled-end : Stands image f → f .cursor .left ≡ 0 → Settled image f times values f times′ values′
     settled-end s last = record {
