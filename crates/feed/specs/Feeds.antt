@@ -11,7 +11,7 @@
 --   Done           the open key has no point left
 --   pastBlock      the feed after all points of the decoded block
 --   Begun, OnKey, OnBlock   what the first feed and each step have
-use Prim.Native.Nat.{ℕ, _+_, _-_, _≤_, _<_}
+use Prim.Native.Nat.{ℕ, _-_, _≤_, _<_}
 use mathlib.Core.Path.{_≡_}
 use mathlib.Core.List.{List, [], _∷_, _++_}
 use lib.IntN.{ℤ}

@@ -22,7 +22,7 @@ use Rattle.index.specs.declared.Cursor.{Cursor}
 use Rattle.index.specs.declared.Skipped.{Skipped}
 use Rattle.index.specs.declared.EntryCheck.{EntryCheck}
 use Rattle.index.specs.Cursors.{keyAt, maxOf, entryCheckOf, past, entryAt, entriesLeft, skipped, skippedAt, pastEntries, entriesFrom, entriesAt, restFrom, rest, Sound}
-use Rattle.index.proofs.Fits.{BlockFits, EntryFits, entry-fits}
+use Rattle.index.proofs.Fits.{EntryFits, entry-fits}
 use Rattle.index.proofs.Rests.{bind-assoc, keysOnly, pair}
 use Rattle.index.proofs.Walks.{Remaining, taken-with}
 use Rattle.index.proofs.Sounds.{StepSound, take-sound}

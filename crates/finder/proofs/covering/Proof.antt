@@ -8,8 +8,7 @@ use lib.IntN.{ℤ}
 use mir.Syntax.{w64}
 use mir.Val.{toZ, ofZ}
 use mir.ValLaws.{toZ-ofZ}
-use Rattle.format.specs.declared.Entry.{Entry}
-use Rattle.format.specs.Refusals.{Result, answerOf}
+use Rattle.format.specs.Refusals.{answerOf}
 use Rattle.finder.proofs.Searches.{coverAt, cover-here, cover-on, cover-none}
 use Rattle.finder.proofs.covering.Statement.{statement}
 use Rattle.finder.proofs.covering.Tie as tie

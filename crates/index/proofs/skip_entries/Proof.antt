@@ -1,6 +1,6 @@
 -- `index::skip_entries` meets its contract: the entries left from where it stands say the same as all.
 use borrow.Author.Needs.{needs}
-use mathlib.Core.Path.{_≡_, refl, ap, sym, _∙_}
+use mathlib.Core.Path.{_≡_, refl, sym, _∙_}
 use Prim.Native.Nat.{ℕ, zero-le}
 use native.Mathlib.Omega.{arith}
 use mir.Syntax.{w64}
