@@ -1,2 +1,5 @@
--- Definitions that the timestamps and the integers section share.
+-- Definitions that the sections share.
+--   Choices   what our writer chooses by
+--   Cells     the lent cells after reading
 pub mod Choices
+pub mod Cells

@@ -12,7 +12,8 @@ use Rattle.format.specs.Block.{readValues}
 use Rattle.format.proofs.Parts.{part-length}
 use Rattle.timestamps.specs.declared.TimesRead.the-variants.{Count}
 use Rattle.timestamps.specs.Reading.{timesAnswer}
-use Rattle.block.specs.Answers.{timesPlace, valuesPlace, valuesAnswer, ValuesLaid}
+use Rattle.section_laws.specs.Cells.{Laid}
+use Rattle.block.specs.Answers.{timesPlace, valuesPlace, valuesAnswer}
 use Rattle.block.proofs.Sections.{TimesAre, BrokenAt, times-count, times-broken, times-spare, times-few, values-read, values-over, values-broken}
 use Rattle.block.proofs.Parts.{times-refused, values-refused, both-read}
 use Rattle.block.proofs.read_parts.Statement.{statement}
@@ -144,9 +145,9 @@ module _ (c : tie.After-read-values) where
   told : c .read-values .result ≡ valuesAnswer (readValues (from .args .kind) (n known) 0 (valuesPart from))
   told = c .read-values .ensures .0 ∙ rw (values-part from)
 
-  cells : ValuesLaid (readValues (from .args .kind) (n known) 0 (valuesPart from)) (lent known) (c .read-values .last .1 .1 .1 .0)
+  cells : Laid (readValues (from .args .kind) (n known) 0 (valuesPart from)) (lent known) (c .read-values .last .1 .1 .1 .0)
   cells =
-      subst (λ (l : List ℕ). ValuesLaid (readValues (from .args .kind) (n known) 0 l) (lent known) (c .read-values .last .1 .1 .1 .0))
+      subst (λ (l : List ℕ). Laid (readValues (from .args .kind) (n known) 0 l) (lent known) (c .read-values .last .1 .1 .1 .0))
       (values-part from) (c .read-values .ensures .1)
 
 -- the values are broken
