@@ -46,8 +46,8 @@ returns c =
     ∙ l .inv .1)
     ∙ told p
 
-add-t10 : tie.Need-add-t10 Inv-loop μ-loop
-add-t10 c = omega arith
+add-next : tie.Need-add-next Inv-loop μ-loop
+add-next c = omega arith
 
 sub-left : tie.Need-sub-left Inv-loop μ-loop
 sub-left c = omega arith
@@ -83,7 +83,7 @@ covering-spec =
     read-entry-requires
     covers-requires
     returns
-    add-t10
+    add-next
     sub-left
     loop-less
     loop-again
