@@ -1,6 +1,6 @@
 -- A feed by what its index and its blocks read.
 --   Placed, Left, placed   where they are read, the feed stands, and that is what is left
---   framed, starts         the frame of the image of a feed that stands
+--   starts                 the frame of the image of a feed that stands
 use Prim.Native.Nat.{ℕ, _≤_}
 use mathlib.Core.Path.{_≡_, ap}
 use mathlib.Core.List.{List, []}
@@ -11,7 +11,8 @@ use Rattle.format.specs.Meaning.{Point, Meaning}
 use Rattle.format.specs.Index.{IndexKey}
 use Rattle.format.specs.File.{indexStart, checkFrame, readBlocks, readSeries}
 use Rattle.index.specs.Cursors.{Sound}
-use Rattle.index.proofs.Frames.{IndexStartsAt, Framed, frame-fits}
+use Rattle.format.proofs.Readings.{frame-parts}
+use Rattle.index.proofs.Frames.{IndexStartsAt}
 use Rattle.feed.specs.declared.Feed.{Feed}
 use Rattle.feed.specs.Feeds.{readOr, indexLeft, entriesLeft, keysLeft, blocksLeft, seriesLeft, Stands}
 use Rattle.index.specs.Frames.{indexPart}
@@ -71,8 +72,5 @@ module _ (image : List ℕ) (f : Feed) (es : List Entry) (ks : List IndexKey) wh
         series = series;
       }
 
-pub framed : (image : List ℕ) → checkFrame image ≡ ok tt → Framed image
-framed image e = rw e at (frame-fits image)
-
 pub starts : (image : List ℕ) (f : Feed) → Stands image f → IndexStartsAt image (f .start)
-starts image f s = record { good = s .frame; start = s .start; framed = framed image (s .frame) }
+starts image f s = record { good = s .frame; start = s .start; framed = frame-parts image (s .frame) }
