@@ -64,5 +64,5 @@ module _ (whole : Closed) (r : Passed) (out : List ℕ) where
   pub passed-ended : (b e : ℕ) → r ≡ Passed.Ended b e → PassedAs whole r out → _≡_ {A = Closed} (record { block = b; entry = e; bytes = out }) whole
   passed-ended b e f h = subst (λ (x : Passed). PassedAs whole x out) f h
 
-  pub passed-past : r ≡ Passed.TooLong → PassedAs whole r out → Past whole
+  pub passed-past : r ≡ Passed.GivenUp → PassedAs whole r out → Past whole
   passed-past f h = subst (λ (x : Passed). PassedAs whole x out) f h
