@@ -5,9 +5,10 @@
 --   SeriesRead, series-read, no-series   the first series and those after it, or none
 --   BlocksRead, blocks-read, no-blocks   the first block and those after it, or none
 --   BlockParts, block-parts     a block: its checksum, its body, its first and last time
+--   body-parts                  a body: its kind, and what follows
 --   SectionsParts, sections-parts   a body after its kind: T, and the two sections
 use Prim.Native.Nat.{ℕ, _+_, _*_, _≤_, _<_}
-use mathlib.Core.Path.{_≡_, refl, sym, subst}
+use mathlib.Core.Path.{_≡_, refl, ap, sym, subst}
 use mathlib.Core.Bool.{true, _&&_}
 use mathlib.Core.List.{List, [], _∷_, _++_}
 use mathlib.Core.Option.{none}
@@ -33,7 +34,7 @@ use Rattle.format.specs.Block.{readValues, pointsFrom, firstTime, lastTi
 use Rattle.format.specs.Index.{IndexKey, BlockSpan, entrySize, keyHeadSize, lengthField, keyField, kindField, countField, readEntries, readKey}
 use Rattle.format.specs.File.{magic, version, footerPlace, indexStart, checkFrame, readIndex, blockOf, readBlocks, readSeries, readFile}
 use Rattle.format.proofs.Tests.{both-left, both-right}
-use Rattle.format.proofs.Results.{bind-ok, require-ok, test-ok, ok-path}
+use Rattle.format.proofs.Results.{refused-not, bind-ok, require-ok, test-ok, ok-path}
 use Rattle.format.proofs.Orders.{sameTime-path, sameList-path}
 use Rattle.format.proofs.KindBytes.{kind-unique}
 
@@ -170,6 +171,14 @@ block-parts e bs ps read =
       first = sameTime-path _ _ (both-left first last (c .0));
       last = sameTime-path _ _ (both-right first last (c .0));
     })
+
+pub body-parts : (kind : Kind) (at : ℕ) (bs : List ℕ) (ps : List Point) → readBody kind at bs ≡ ok ps
+    → (rest : List ℕ) × (bs ≡ kindByte kind ∷ rest) × (readSections kind (at + 1) rest ≡ ok ps)
+unfolding readBody
+body-parts kind at [] ps read = refused-not read
+body-parts kind at (k ∷ bs) ps read =
+    let a = require-ok (eqb k (kindByte kind)) BlockHead at _ ps read in
+    (bs, ap (λ (b : ℕ). b ∷ bs) (eqb-true k (kindByte kind) (a .0)), a .1)
 
 pub record SectionsParts (kind : Kind) (at : ℕ) (bs : List ℕ) (ps : List Point) : Type 0 where
   pub T : ℕ
