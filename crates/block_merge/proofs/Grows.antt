@@ -8,10 +8,10 @@ use native.Mathlib.Omega.{arith}
 use lib.IntN.{ℤ}
 use Rattle.format.specs.Limits.{writerBlockMost}
 use Rattle.merging.proofs.Walk.{points-end}
-use Rattle.block_writer.specs.Filled.{filled}
+use Rattle.format.specs.Block.{filled}
+use Rattle.format.proofs.Points.{cells-none}
 use Rattle.block_merge.specs.declared.Merged.{Merged}
 use Rattle.block_merge.specs.Cells.{BlocksMoved, BlockCopied, Grown}
-use Rattle.block_merge.proofs.Moves.{cells-none}
 
 module _ (olderTimes : List ℤ) (olderValues : List ℕ) (iEnd : ℕ) (newerTimes : List ℤ) (newerValues : List ℕ) (jEnd : ℕ)
     (at : Merged) (times : List ℤ) (values : List ℕ) (times′ : List ℤ) (values′ : List ℕ)

@@ -1,5 +1,4 @@
 -- Points go from the blocks into the fill.
---   cells-next, cells-none   the first point of some cells, and none
 --   laid-older, laid-newer, laid-both   the point that is laid, by the tests
 --   merge-next               the next point of a merge, by which time is earlier
 --   moved-none, moved-on, next-moved   no point, two moves one after the other, and one point
@@ -18,26 +17,11 @@ use Rattle.format.specs.Choice.{if_then_else_}
 use Rattle.format.specs.Meaning.{Point, pointOf}
 use Rattle.format.specs.Merge.{mergePoints}
 use Rattle.format.proofs.Orders.{time-irreflexive, time-transitive, time-total}
-use Rattle.format.proofs.Parts.{part-next, part-none}
+use Rattle.format.proofs.Points.{cells-next}
 use Rattle.merging.proofs.Walk.{points-older, points-newer, points-both}
-use Rattle.block_writer.specs.Filled.{filled}
+use Rattle.format.specs.Block.{cells, filled}
 use Rattle.builder.proofs.Fills.{fuller-is}
-use Rattle.block_merge.specs.Cells.{cells, step, NextLaid, Moved, Copied}
-
--- ---- the cells
-
-module _ (times : List ℤ) (values : List ℕ) (from to : ℕ) where
-  pub cells-none : to ≤ from → cells from to times values ≡ []
-  unfolding cells
-  cells-none h = rw (part-none times from to h)
-
-  module _ (h : from < to) (in-times : to ≤ length times) (in-values : to ≤ length values) where
-    abbrev here : Point
-    here = pointOf (getD times from (pos 0)) (getD values from 0)
-
-    pub cells-next : cells from to times values ≡ here ∷ cells (from + 1) to times values
-    unfolding cells
-    cells-next = rw (part-next times (pos 0) from to h in-times, part-next values 0 from to h in-values)
+use Rattle.block_merge.specs.Cells.{step, NextLaid, Moved, Copied}
 
 -- ---- the next point
 

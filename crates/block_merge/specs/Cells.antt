@@ -1,5 +1,4 @@
 -- Points that stand in two arrays, merged into the fill: the fill, with what is to come after it, stays the same.
---   cells          the points from one place up to another
 --   step, NextLaid   the next point is laid, and which sides have passed it
 --   merged         the points of two blocks merged, with others after each
 --   Within         places of a block or of the fill
@@ -12,19 +11,14 @@ use mathlib.Core.Path.{_≡_}
 use mathlib.Core.Bool.{Bool}
 use mathlib.Core.List.{List, [], _++_}
 use lib.IntN.{ℤ, pos}
-use lib.ListN.{length, take, drop, getD, set}
+use lib.ListN.{length, getD, set}
 use lib.Signed.{ltZ}
 use Rattle.format.specs.Limits.{writerBlockMost}
 use Rattle.format.specs.Choice.{if_then_else_}
 use Rattle.format.specs.Meaning.{Point}
-use Rattle.format.specs.Block.{pointsFrom}
+use Rattle.format.specs.Block.{cells, filled}
 use Rattle.format.specs.Merge.{mergePoints}
-use Rattle.block_writer.specs.Filled.{filled}
 use Rattle.block_merge.specs.declared.Merged.{Merged}
-
--- the points from one place up to another
-unfoldable pub cells : (from to : ℕ) → List ℤ → List ℕ → List Point
-cells from to times values = pointsFrom (take (to - from) (drop from times)) (take (to - from) (drop from values))
 
 -- ---- the next point
 

@@ -17,7 +17,7 @@ use Rattle.format.specs.Choice.{every, ascends, ascendsFrom}
 use Rattle.format.specs.Meaning.{Point, pointOf, pointBefore}
 use Rattle.format.specs.WellFormed.{goodPoint}
 use Rattle.format.specs.Block.{pointsFrom}
-use Rattle.block_writer.specs.Filled.{OfKind}
+use Rattle.block_writer.specs.Fits.{OfKind}
 use Rattle.format.proofs.Tests.{both-right, both-left}
 use Rattle.format.specs.Limits.{timeLeast, timeMost}
 

@@ -17,7 +17,8 @@ use Rattle.format.specs.Choice.{every, ascends}
 use Rattle.format.specs.Meaning.{Point, pointBefore}
 use Rattle.format.specs.WellFormed.{goodPoint}
 use Rattle.section_laws.proofs.BlockLengths.{blockBytes-most}
-use Rattle.block_writer.specs.Filled.{filled, BlockFits}
+use Rattle.block_writer.specs.Fits.{BlockFits}
+use Rattle.format.specs.Block.{filled}
 use Rattle.builder.specs.declared.Places.{Places}
 use Rattle.builder.specs.Open.{entriesLeft}
 use Rattle.numbers.specs.Laying.{Room}

@@ -19,7 +19,7 @@ use Rattle.format.specs.Meaning.{Point, Meaning, pointBefore}
 use Rattle.format.specs.WellFormed.{goodPoint}
 use Rattle.format.specs.Index.{entrySize}
 use Rattle.format.specs.Writer.{writerBlocks, writerIndex, writerImage}
-use Rattle.block_writer.specs.Filled.{filled}
+use Rattle.format.specs.Block.{filled}
 use Rattle.builder.specs.declared.Places.{Places}
 use Rattle.builder.specs.Open.{entriesLeft}
 use Rattle.builder.specs.Steps.{PlacesFit, KeyFits, Closed}

@@ -4,6 +4,7 @@
 --   block-step     with one left, the step takes it
 --   block-known    the block can be decoded
 --   entry-left, entry-read   the entries after it, and its points and those of the blocks after it
+--   entry-passed   the feed past the entry, with points of its block decoded or not
 --   block-opened   the feed at the decoded block
 use Prim.Native.Nat.{ℕ, _+_, _≤_, zero-le}
 use mathlib.Core.Path.{_≡_, refl, ap, sym, subst, _∙_}
@@ -16,7 +17,7 @@ use types.Run.{OneOf}
 use lib.IntN.{ℤ}
 use lib.ListN.{length}
 use Rattle.format.specs.declared.Entry.{Entry}
-use Rattle.format.specs.Limits.{imageMost}
+use Rattle.format.specs.Limits.{imageMost, readBlockMost}
 use Rattle.format.specs.Refusals.{ok, isOk}
 use Rattle.format.specs.Block.{readBlock}
 use Rattle.format.specs.Index.{IndexKey}
@@ -29,13 +30,12 @@ use Rattle.index.proofs.Steps.{on-entry, good-entry}
 use Rattle.index.proofs.Taken.{none-left, good-take, entry-past}
 use Rattle.block.proofs.Answers.{PointsAre}
 use Rattle.block.proofs.Bodies.{block-few}
-use Rattle.format.proofs.Points.{points-back}
+use Rattle.format.proofs.Points.{points-back, cells-first}
 use Rattle.feed.specs.declared.Feed.{Feed}
 use Rattle.index.specs.Frames.{indexPart}
 use Rattle.feed.specs.Feeds.{keyOf, entriesLeft, keysLeft, blocksLeft, seriesLeft, Stands, Kept, BlockOpened}
 use Rattle.feed.proofs.Readings.{BlocksRead, blocks-read, no-blocks}
-use Rattle.feed.proofs.Standing.{placed, starts}
-use Rattle.feed.proofs.Cells.{held-block}
+use Rattle.feed.proofs.Standing.{Left, placed, starts}
 
 -- a step that takes an entry is no other
 pub entry-tag : (s : Step) (e : Entry) (d : Cursor) → s ≡ Step.Entry e d → OneOf (0 ∷ 2 ∷ 3 ∷ []) (tagOf the-type s) → ⊥
@@ -99,6 +99,19 @@ module _ (image : List ℕ) (f : Feed) (s : Stands image f) where
         let past = entry-past index x (f .cursor) (s .sound) es ks (s .index) v d step in
         record { key = ap (λ (c : Cursor). keyAt index (c .key)) past; kind = ap (λ (c : Cursor). c .kind) past; series = same }
 
+    pub entry-passed : (n : ℕ) → n ≤ readBlockMost → Left image (decoded n) (entry-read .later) (seriesLeft image f)
+    entry-passed n most =
+        placed image (decoded n) (entry-left .0) ks (entry-read .later) (seriesLeft image f) (record {
+          frame = s .frame;
+          start = s .start;
+          sound = on-entry index x (f .cursor) (s .sound) v d step .sound;
+          index = entry-left .1;
+          blocks = entry-read .blocks;
+          series = s .series;
+          next-most = zero-le;
+          count-most = most;
+        })
+
     pub block-opened : (oldTimes newTimes : List ℤ) (oldValues newValues : List ℕ) (n : ℕ) → PointsAre oldTimes newTimes oldValues newValues n (readBlock v (blockOf image v))
         → BlockOpened image f newTimes newValues (decoded n)
     block-opened oldTimes newTimes oldValues newValues n are =
@@ -107,17 +120,8 @@ module _ (image : List ℕ) (f : Feed) (s : Stands image f) where
         let many : length (are .points) ≡ n = are .count in
         let same : ok (are .points) ≡ ok (entry-read .first) = sym (are .read) ∙ entry-read .block in
         let first : are .points ≡ entry-read .first = cc in
-        let cells = held-block (decoded n) newTimes newValues (are .points) refl (points-back (are .points) n oldTimes newTimes oldValues newValues (are .count) (are .times) (are .values)) in
-        let left = placed image (decoded n) (entry-left .0) ks (entry-read .later) (seriesLeft image f) (record {
-          frame = s .frame;
-          start = s .start;
-          sound = on .sound;
-          index = entry-left .1;
-          blocks = entry-read .blocks;
-          series = s .series;
-          next-most = zero-le;
-          count-most = omega (arith, few .few);
-        }) in
+        let cells = cells-first newTimes newValues n ∙ points-back (are .points) n oldTimes newTimes oldValues newValues (are .count) (are .times) (are .values) in
+        let left = entry-passed n (omega (arith, few .few)) in
         record {
           stands = left .stands;
           kept = decoded-kept n (left .series);

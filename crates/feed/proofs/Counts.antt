@@ -1,6 +1,5 @@
 -- Counting the points of a key block by block: those counted and those to come make all of them.
 --   Counting     n points were counted between two cursors in the index
---   alone        the cursor of a feed, by itself
 --   counting-start, counting-further, counting-on, counting-end   step by step
 use Prim.Native.Nat.{ℕ, _+_, _*_, _≤_, _<_, zero-le}
 use mathlib.Core.Path.{_≡_, ap, _∙_}
@@ -21,30 +20,19 @@ use Rattle.block.specs.declared.BlockPoints.{BlockPoints}
 use Rattle.block.specs.Answers.{blockAnswer}
 use Rattle.block.proofs.Bodies.{block-few}
 use Rattle.feed.specs.declared.Feed.{Feed}
-use Rattle.feed.specs.Feeds.{entriesLeft, keysLeft, blocksLeft, seriesLeft, Stands}
-use Rattle.feed.proofs.Standing.{Left, placed}
-use Rattle.feed.proofs.Keys.{atCursor}
-use Rattle.feed.proofs.Blocks.{no-block, entry-left, entry-read}
+use Rattle.feed.specs.Feeds.{blocksLeft, seriesLeft, atCursor, Stands}
+use Rattle.feed.proofs.Standing.{Left, refilled}
+use Rattle.feed.proofs.Blocks.{no-block, entry-read, entry-passed}
 
 pub record Counting (image : List ℕ) (start : ImagePlace) (first c : Cursor) (n : ℕ) : Type 0 where
   pub stands : Stands image (atCursor start c)
   pub same : n + length (blocksLeft image (atCursor start c)) ≡ length (blocksLeft image (atCursor start first))
   pub few : n ≤ c .at .0 * 1000
 
--- the cursor of a feed, by itself
 module _ (image : List ℕ) (f : Feed) (s : Stands image f) where
-  pub alone : Left image (atCursor (f .start) (f .cursor)) (blocksLeft image f) (seriesLeft image f)
-  alone =
-      placed image (atCursor (f .start) (f .cursor)) (entriesLeft image f) (keysLeft image f) (blocksLeft image f) (seriesLeft image f) (record {
-        frame = s .frame;
-        start = s .start;
-        sound = s .sound;
-        index = s .index;
-        blocks = s .blocks;
-        series = s .series;
-        next-most = zero-le;
-        count-most = zero-le;
-      })
+  -- the cursor of the feed, by itself
+  alone : Left image (atCursor (f .start) (f .cursor)) (blocksLeft image f) (seriesLeft image f)
+  alone = refilled image f s 0 0 zero-le zero-le
 
   pub counting-start : Counting image (f .start) (f .cursor) (f .cursor) 0
   counting-start =
@@ -64,18 +52,8 @@ module _ (image : List ℕ) (start : ImagePlace) (first c : Cursor) (n : ℕ) (k
     counting-on m e =
         let f = atCursor start c in
         let s = k .stands in
-        let entry = entry-left image f s v d step in
         let read = entry-read image f s v d step in
-        let left = placed image (atCursor start d) (entry .0) (keysLeft image f) (read .later) (seriesLeft image f) (record {
-          frame = s .frame;
-          start = s .start;
-          sound = on-entry (indexPart image (start .0)) (start .0) c (s .sound) v d step .sound;
-          index = entry .1;
-          blocks = read .blocks;
-          series = s .series;
-          next-most = zero-le;
-          count-most = zero-le;
-        }) in
+        let left = entry-passed image f s v d step 0 zero-le in
         let is : BlockPoints.Count m ≡ BlockPoints.Count (length (read .first)) = e ∙ ap blockAnswer (read .block) in
         let many : m ≡ length (read .first) = cc in
         let most : length (read .first) ≤ 1000 = block-few v (blockOf image v) (read .first) (read .block) .few in

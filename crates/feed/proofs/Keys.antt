@@ -1,6 +1,4 @@
 -- The first feed, and the next key: the step of the cursor in the index.
---   atCursor             a feed with no block decoded
---   ok-of                an accepted result is a value
 --   begun, frame-not-refused        the first feed
 --   key-part                        the open key as a part of the image
 --   key-opened, no-key, key-not-entry, not-refused     the next key
@@ -14,7 +12,7 @@ use lib.Seq.{drop-drop, take-take}
 use Rattle.format.specs.declared.Entry.{Entry}
 use Rattle.format.specs.declared.Refusal.{Refusal}
 use Rattle.format.specs.declared.ImagePlace.{ImagePlace}
-use Rattle.format.specs.Refusals.{Result, ok, refused, _>>=_, isOk}
+use Rattle.format.specs.Refusals.{Result, ok, _>>=_, isOk}
 use Rattle.format.specs.Index.{IndexKey}
 use Rattle.format.specs.File.{readBlocks, readSeries, readFile}
 use Rattle.index.specs.declared.Cursor.{Cursor}
@@ -29,19 +27,12 @@ use Rattle.index.proofs.Steps.{on-key, image-sound, index-rest, good-key, good-
 use Rattle.index.proofs.Taken.{entry-not}
 use Rattle.feed.specs.declared.Feed.{Feed}
 use Rattle.format.proofs.Parts.{drop-take}
-use Rattle.feed.specs.Feeds.{keyOf, entriesLeft, keysLeft, held, seriesLeft, Stands, Done, Begun, KeyOpened}
+use Rattle.format.proofs.Results.{refused-not, ok-of}
+use Rattle.feed.specs.Feeds.{keyOf, entriesLeft, keysLeft, seriesLeft, atCursor, Stands, Done, Begun, KeyOpened}
 use Rattle.feed.proofs.Readings.{series-read, no-series, file-index}
 use Rattle.feed.proofs.Standing.{placed}
 
--- a feed with no block decoded
-abbrev pub atCursor : ImagePlace → Cursor → Feed
-atCursor start c = record { start = start; cursor = c; next = 0; count = 0 }
-
 -- ---- the first feed
-
-pub ok-of : {A : Type 0} (r : Result A) → isOk r ≡ true → (v : A) × (r ≡ ok v)
-ok-of (ok v) e = (v, refl)
-ok-of (refused r place) e = let z : _≡_ {A = ℕ} 0 1 = cc in absurd (omega arith)
 
 module _ (image : List ℕ) (good : isOk (readFile image) ≡ true) where
   none-read : readBlocks image [] ≡ ok []
@@ -70,8 +61,7 @@ module _ (image : List ℕ) (good : isOk (readFile image) ≡ true) where
       let m = ok-of (readFile image) good in
       let read = file-index image (m .0) (m .1) in
       let no = index-refused image r place (frame-refused image r place e) in
-      let is : ok (read .0) ≡ refused r (place .0) = sym (read .1) ∙ no in
-      let z : _≡_ {A = ℕ} 0 1 = cc in omega arith
+      refused-not (sym no ∙ read .1)
 
 -- ---- the open key
 

@@ -1,4 +1,4 @@
--- The laws of this crate; a client of a feed needs `ok-of` of Keys, `points-blocks` of Cells and `alone` of Counts.
+-- The laws of this crate; a client of a feed needs `points-blocks` of Cells and `refilled` of Standing.
 --   Readings   blocks and series that were read, one by one
 --   Standing   a feed by what its index and its blocks read
 --   Cells      the decoded block in the cells

@@ -1,5 +1,6 @@
 -- A feed by what its index and its blocks read.
 --   Placed, Left, placed   where they are read, the feed stands, and that is what is left
+--   refilled               the same for a feed that stands, with other points of a decoded block
 --   starts                 the frame of the image of a feed that stands
 use Prim.Native.Nat.{ℕ, _≤_}
 use mathlib.Core.Path.{_≡_, ap}
@@ -71,6 +72,21 @@ module _ (image : List ℕ) (f : Feed) (es : List Entry) (ks : List IndexKey) wh
         blocks = blocks;
         series = series;
       }
+
+-- other points of a decoded block are held: what comes after them is the same
+pub refilled : (image : List ℕ) (f : Feed) → Stands image f → (next count : ℕ) → next ≤ count → count ≤ readBlockMost
+    → Left image (record { start = f .start; cursor = f .cursor; next = next; count = count }) (blocksLeft image f) (seriesLeft image f)
+refilled image f s next count order few =
+    placed image (record { start = f .start; cursor = f .cursor; next = next; count = count }) (entriesLeft image f) (keysLeft image f) (blocksLeft image f) (seriesLeft image f) (record {
+      frame = s .frame;
+      start = s .start;
+      sound = s .sound;
+      index = s .index;
+      blocks = s .blocks;
+      series = s .series;
+      next-most = order;
+      count-most = few;
+    })
 
 pub starts : (image : List ℕ) (f : Feed) → Stands image f → IndexStartsAt image (f .start)
 starts image f s = record { good = s .frame; start = s .start; framed = frame-parts image (s .frame) }

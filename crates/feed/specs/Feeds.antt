@@ -9,21 +9,22 @@
 --   openSeries     the series of the open key, with its points
 --   Stands         a feed stands where a walk over an accepted image stands
 --   Done           the open key has no point left
---   pastBlock      the feed after all points of the decoded block
+--   atCursor, pastBlock   a feed with no block decoded, and the feed after all points of the decoded block
 --   Begun, OnKey, OnBlock   what the first feed and each step have
-use Prim.Native.Nat.{ℕ, _-_, _≤_, _<_}
+use Prim.Native.Nat.{ℕ, _≤_, _<_}
 use mathlib.Core.Path.{_≡_}
 use mathlib.Core.List.{List, [], _∷_, _++_}
 use lib.IntN.{ℤ}
-use lib.ListN.{take, drop}
 use Rattle.format.specs.declared.Entry.{Entry}
+use Rattle.format.specs.declared.ImagePlace.{ImagePlace}
 use Rattle.format.specs.Limits.{readBlockMost}
 use Rattle.format.specs.Refusals.{Result, ok}
 pub use Rattle.format.specs.Refusals.{readOr}
 use Rattle.format.specs.Meaning.{Point, Series, Meaning}
-use Rattle.format.specs.Block.{pointsFrom}
+use Rattle.format.specs.Block.{cells}
 use Rattle.format.specs.Index.{IndexKey}
 use Rattle.format.specs.File.{indexStart, checkFrame, readBlocks, readSeries, readFile}
+use Rattle.index.specs.declared.Cursor.{Cursor}
 use Rattle.index.specs.Cursors.{keyAt, rest, Sound}
 use Rattle.feed.specs.declared.Feed.{Feed}
 use Rattle.feed.specs.declared.NextKey.{NextKey}
@@ -51,9 +52,8 @@ unfoldable pub blocksLeft : List ℕ → Feed → List Point
 blocksLeft image f = readOr [] (readBlocks image (entriesLeft image f))
 
 -- the points of the decoded block that are left
-unfoldable pub held : Feed → (times : List ℤ) → (values : List ℕ) → List Point
-held f times values =
-    pointsFrom (take (f .count - f .next) (drop (f .next) times)) (take (f .count - f .next) (drop (f .next) values))
+abbrev pub held : Feed → (times : List ℤ) → (values : List ℕ) → List Point
+held f times values = cells (f .next) (f .count) times values
 
 -- the points of the open key that are left
 unfoldable pub pointsLeft : List ℕ → Feed → (times : List ℤ) → (values : List ℕ) → List Point
@@ -122,6 +122,10 @@ abbrev pub OnBlock : List ℕ → Feed → (times : List ℤ) → (values : List
 OnBlock image f times values (NextBlock.Block g) = BlockOpened image f times values g
 OnBlock image f times values NextBlock.End = (f .cursor .left ≡ 0) × (blocksLeft image f ≡ [])
 
+-- a feed with no block decoded
+abbrev pub atCursor : ImagePlace → Cursor → Feed
+atCursor start c = record { start = start; cursor = c; next = 0; count = 0 }
+
 -- the feed after all points of the decoded block
 abbrev pub pastBlock : Feed → Feed
-pastBlock f = record { start = f .start; cursor = f .cursor; next = 0; count = 0 }
+pastBlock f = atCursor (f .start) (f .cursor)

@@ -21,7 +21,7 @@ use Rattle.format.proofs.Answers.{check-refused}
 use Rattle.format.proofs.Tests.{both-left}
 use Rattle.file_laws.proofs.FilesAccepted.{file-accepted}
 use Rattle.merging.proofs.MergeLaws.{merge-wellFormed}
-use Rattle.feed.proofs.Keys.{ok-of}
+use Rattle.format.proofs.Results.{ok-of}
 use Rattle.key_merge.specs.Turns.{meaningOf, mergedOf}
 use Rattle.key_merge.proofs.Starts.{meaning-is}
 

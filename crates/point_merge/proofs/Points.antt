@@ -15,22 +15,23 @@ use Rattle.format.specs.declared.Kind.{Kind}
 use Rattle.format.specs.Limits.{imageMost, writerBlockMost}
 use Rattle.format.specs.Meaning.{Point}
 use Rattle.format.specs.Merge.{mergePoints}
-use Rattle.block_writer.specs.Filled.{filled}
+use Rattle.format.specs.Block.{filled}
 use Rattle.builder.specs.declared.Places.{Places}
 use Rattle.builder.specs.Steps.{ExtendFits, Closed, extendPlaces, extendBytes}
 use Rattle.builder.specs.Passes.{Near, Filling, Past}
 use Rattle.builder.proofs.Fills.{filled-length}
 use Rattle.builder.proofs.Passes.{past-key, extend-fits, extend-filling, extend-same}
 use Rattle.feed.specs.declared.Feed.{Feed}
-use Rattle.feed.specs.Feeds.{entriesLeft, blocksLeft, held, pointsLeft, seriesLeft, Stands, Done}
+use Rattle.feed.specs.Feeds.{blocksLeft, pointsLeft, seriesLeft, Stands, Done}
+use Rattle.feed.proofs.Standing.{Left}
 use Rattle.feed.proofs.Blocks.{no-block}
 use Rattle.feed.proofs.Cells.{points-blocks}
 use Rattle.writer.specs.Adding.{closedKey}
 use Rattle.block_merge.specs.declared.Merged.{Merged}
-use Rattle.block_merge.specs.Cells.{cells, Grown}
+use Rattle.block_merge.specs.Cells.{Grown}
 use Rattle.point_merge.specs.declared.PointsAdded.{PointsAdded}
 use Rattle.point_merge.specs.Adding.{Settled, mergedPoints, PointsReady, AllAdded, PointsAddedAs}
-use Rattle.point_merge.proofs.Settles.{passedTo, passed-stands, passed-series}
+use Rattle.point_merge.proofs.Settles.{passedTo, passed}
 
 -- ---- between two steps
 
@@ -119,12 +120,19 @@ module _ {older : List ℕ} {f : Feed} {newer : List ℕ} {g : Feed} {laying : B
         abbrev left : List Point
         left = mergedPoints older (passedTo (to .older) x) olderTimes olderValues newer (passedTo (to .newer) y) newerTimes newerValues
 
+        older-passed : Left older (passedTo (to .older) x) (blocksLeft older x) (seriesLeft older x)
+        older-passed = passed older x (to .older) (h .older-at .stands) (grown .older)
+
+        newer-passed : Left newer (passedTo (to .newer) y) (blocksLeft newer y) (seriesLeft newer y)
+        newer-passed = passed newer y (to .newer) (h .newer-at .stands) (grown .newer)
+
         all-same : filled (to .filled) times′ values′ ++ left ≡ filled (s .filled) times values ++ all
-        unfolding cells held pointsLeft entriesLeft blocksLeft
+        unfolding pointsLeft
         all-same =
-            grown .same (blocksLeft older x) (blocksLeft newer y)
+            rw (older-passed .blocks, newer-passed .blocks)
+            (grown .same (blocksLeft older x) (blocksLeft newer y)
             (λ used. no-block older x (h .older-at .stands) (older-end used .left))
-            (λ used. no-block newer y (h .newer-at .stands) (newer-end used .left))
+            (λ used. no-block newer y (h .newer-at .stands) (newer-end used .left)))
 
         few : s .filled < writerBlockMost
         few = omega (arith, h .filling .key .fill, h .filling .key .few)
@@ -164,8 +172,8 @@ module _ {older : List ℕ} {f : Feed} {newer : List ℕ} {g : Feed} {laying : B
             → out′ ≡ extendBytes laying kind (filled (to .filled) times′ values′) s out → Near (s .block) (s .entry)
             → Merging older f newer g laying kind whole (passedTo (to .older) x) olderTimes olderValues (passedTo (to .newer) y) newerTimes newerValues s′ times′ values′ out′
         grown-goes-on {s′} {out′} places laid near = record {
-          older-at = record { stands = passed-stands older x (to .older) (h .older-at .stands) (grown .older); series = passed-series older x (to .older) ∙ h .older-at .series };
-          newer-at = record { stands = passed-stands newer y (to .newer) (h .newer-at .stands) (grown .newer); series = passed-series newer y (to .newer) ∙ h .newer-at .series };
+          older-at = record { stands = older-passed .stands; series = older-passed .series ∙ h .older-at .series };
+          newer-at = record { stands = newer-passed .stands; series = newer-passed .series ∙ h .newer-at .series };
           filling = extend-filling laying kind (parts .added) left s times values out filling-parts (to .filled) times′ values′ (parts .laid) (grown .most) same-times same-values s′ out′ places laid near;
           same =
               extend-same laying kind (parts .added) left s times values out filling-parts (to .filled) times′ values′ (parts .laid) (grown .most) same-times same-values s′ out′ places laid

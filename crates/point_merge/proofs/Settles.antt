@@ -1,13 +1,14 @@
 -- A feed at its next point, or at the end of the open key.
 --   settled-here, settled-block, settled-end   by what the feed has
---   passed-stands, passed-series               a feed with points of its decoded block passed
+--   passedTo, passed                           a feed with points of its decoded block passed
 use Prim.Native.Nat.{ℕ, _≤_, _<_}
 use mathlib.Core.Path.{_≡_, refl, sym, _∙_}
 use mathlib.Core.List.{List}
 use native.Mathlib.Omega.{arith}
 use lib.IntN.{ℤ}
 use Rattle.feed.specs.declared.Feed.{Feed}
-use Rattle.feed.specs.Feeds.{entriesLeft, keysLeft, blocksLeft, seriesLeft, Stands, BlockOpened}
+use Rattle.feed.specs.Feeds.{blocksLeft, seriesLeft, Stands, BlockOpened}
+use Rattle.feed.proofs.Standing.{Left, refilled}
 use Rattle.feed.proofs.Cells.{points-blocks, block-after}
 use Rattle.point_merge.specs.Adding.{Settled}
 
@@ -38,20 +39,5 @@ module _ (image : List ℕ) (f : Feed) (times : List ℤ) (values : List ℕ) wh
 abbrev pub passedTo : ℕ → Feed → Feed
 passedTo next f = record { start = f .start; cursor = f .cursor; next = next; count = f .count }
 
-module _ (image : List ℕ) (f : Feed) (next : ℕ) where
-  pub passed-stands : Stands image f → next ≤ f .count → Stands image (passedTo next f)
-  unfolding entriesLeft keysLeft blocksLeft seriesLeft
-  passed-stands s most = record {
-    frame = s .frame;
-    start = s .start;
-    sound = s .sound;
-    index = s .index;
-    blocks = s .blocks;
-    series = s .series;
-    next-most = most;
-    count-most = s .count-most;
-  }
-
-  pub passed-series : seriesLeft image (passedTo next f) ≡ seriesLeft image f
-  unfolding keysLeft seriesLeft
-  passed-series = refl
+pub passed : (image : List ℕ) (f : Feed) (next : ℕ) → Stands image f → next ≤ f .count → Left image (passedTo next f) (blocksLeft image f) (seriesLeft image f)
+passed image f next s most = refilled image f s next (f .count) most (s .count-most)

@@ -5,7 +5,7 @@ use mathlib.Core.List.{List}
 use lib.ListN.{length}
 use native.Mathlib.Omega.{arith}
 use Rattle.format.specs.Meaning.{Point}
-use Rattle.block_writer.specs.Filled.{filled}
+use Rattle.format.specs.Block.{filled}
 use Rattle.builder.specs.Steps.{fillPlaces, flushPlaces, flushBytes}
 use Rattle.builder.proofs.Fills.{filled-length, more-room, more-fit, stays-few, stays-full, extend-stays, extend-flushes}
 use borrow.Author.Needs.{needs}

@@ -12,7 +12,7 @@ use Rattle.index.specs.Frames.{indexPart}
 use Rattle.index.specs.Cursors.{stepAt, Sound}
 use Rattle.feed.specs.declared.Feed.{Feed}
 use Rattle.feed.proofs.Standing.{starts}
-use Rattle.feed.proofs.Keys.{atCursor}
+use Rattle.feed.specs.Feeds.{atCursor}
 use Rattle.feed.proofs.Blocks.{block-step, entry-tag, block-known}
 use Rattle.feed.proofs.Counts.{Counting, counting-start, counting-further, counting-on, counting-end}
 use Rattle.feed.proofs.count_points.Statement.{statement}

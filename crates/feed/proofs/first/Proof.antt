@@ -2,8 +2,8 @@
 use borrow.Author.Needs.{needs}
 use mathlib.Core.Path.{sym, subst, _∙_}
 use Rattle.index.specs.declared.Cursor.{Cursor}
-use Rattle.feed.specs.Feeds.{Begun}
-use Rattle.feed.proofs.Keys.{atCursor, begun, frame-not-refused}
+use Rattle.feed.specs.Feeds.{atCursor, Begun}
+use Rattle.feed.proofs.Keys.{begun, frame-not-refused}
 use Rattle.feed.proofs.first.Statement.{statement}
 use Rattle.feed.proofs.first.Tie as tie
 
