@@ -6,7 +6,7 @@
 --   entry-left, entry-read   the entries after it, and its points and those of the blocks after it
 --   entry-passed   the feed past the entry, with points of its block decoded or not
 --   block-opened   the feed at the decoded block
-use Prim.Native.Nat.{ℕ, _+_, _≤_, zero-le}
+use Prim.Native.Nat.{ℕ, _≤_, zero-le}
 use mathlib.Core.Path.{_≡_, refl, ap, sym, subst, _∙_}
 use mathlib.Core.Logic.{⊎-elim}
 use mathlib.Core.Bool.{true}
@@ -17,7 +17,7 @@ use types.Run.{OneOf}
 use lib.IntN.{ℤ}
 use lib.ListN.{length}
 use Rattle.format.specs.declared.Entry.{Entry}
-use Rattle.format.specs.Limits.{imageMost, readBlockMost}
+use Rattle.format.specs.Limits.{readBlockMost}
 use Rattle.format.specs.Refusals.{ok, isOk}
 use Rattle.format.specs.Block.{readBlock}
 use Rattle.format.specs.Index.{IndexKey}
@@ -32,7 +32,8 @@ use Rattle.block.proofs.Answers.{PointsAre}
 use Rattle.block.proofs.Bodies.{block-few}
 use Rattle.format.proofs.Points.{points-back, cells-first}
 use Rattle.feed.specs.declared.Feed.{Feed}
-use Rattle.index.specs.Frames.{indexPart}
+use Rattle.index.specs.Frames.{indexPart, InImage}
+use Rattle.index.proofs.Frames.{in-image}
 use Rattle.feed.specs.Feeds.{keyOf, entriesLeft, keysLeft, blocksLeft, seriesLeft, Stands, Kept, BlockOpened}
 use Rattle.feed.proofs.Readings.{BlocksRead, blocks-read, no-blocks}
 use Rattle.feed.proofs.Standing.{Left, placed, starts}
@@ -68,8 +69,7 @@ module _ (image : List ℕ) (f : Feed) (s : Stands image f) where
     -- the block can be decoded
     pub record BlockKnown : Type 0 where
       pub good : isOk (readBlock v (blockOf image v)) ≡ true
-      pub within : v .offset .0 + v .size ≤ length image
-      pub most : length image ≤ imageMost
+      pub inside : InImage image v
 
     pub entry-left : (later : List Entry) × (rest index x d ≡ ok (later, ks)) × (es ≡ v ∷ later)
     entry-left = good-entry index x (f .cursor) (s .sound) es ks (s .index) v d step
@@ -83,11 +83,7 @@ module _ (image : List ℕ) (f : Feed) (s : Stands image f) where
     block-known =
         let on = on-entry index x (f .cursor) (s .sound) v d step in
         let st = starts image f s in
-        record {
-          good = ap isOk (entry-read .block);
-          within = omega (arith, on .block .within, st .start, st .framed);
-          most = st .framed .most;
-        }
+        record { good = ap isOk (entry-read .block); inside = in-image image v (st .framed) (on .block .least) (omega (arith, on .block .within, st .start)) }
 
     -- the feed at the decoded block, of n points
     abbrev pub decoded : ℕ → Feed

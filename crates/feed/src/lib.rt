@@ -1,7 +1,6 @@
 // The points of an image that was found good by a full check, one after the other: key by key, block by block, the block
 // being read in lent arrays. No step can be refused. Floor 5: it stands on index and block.
 use format::Entry;
-use format::FOOTER_SIZE;
 use format::ImagePlace;
 use index::Cursor;
 use index::Frame;
@@ -10,13 +9,13 @@ ghost use mathlib.Core.Path.{_≡_};
 ghost use mathlib.Core.Bool.{true};
 ghost use Prim.Native.Nat.{_+_, _≤_};
 ghost use lib.ListN.{length};
-ghost use Rattle.format.specs.Limits.{imageMost, readBlockMost};
+ghost use Rattle.format.specs.Limits.{readBlockMost};
 ghost use Rattle.format.specs.Refusals.{isOk};
 ghost use Rattle.format.specs.Block.{readBlock};
 ghost use Rattle.format.specs.File.{blockOf, accepted};
 ghost use Rattle.block.specs.declared.BlockPoints.{BlockPoints};
 ghost use Rattle.block.specs.Answers.{blockAnswer, PointsLaid};
-ghost use Rattle.index.specs.Frames.{indexPart};
+ghost use Rattle.index.specs.Frames.{InImage};
 ghost use Rattle.feed.specs.Feeds.{keyOf, blocksLeft, pastBlock, Stands, Done, Begun, OnKey, OnBlock};
 
 // Where a feed stands in an image.
@@ -40,16 +39,6 @@ pub enum NextKey {
 pub enum NextBlock {
     Block(Feed),
     End,
-}
-
-// The index of an image, which starts at a place.
-fn index_part(image: &[u8], start: ImagePlace) -> &[u8]
-    requires { ⌜ start .0 + 8 ≤ length (now image) ⌝ }
-    ensures { λ r. ⌜ now r ≡ indexPart (now (image .entry)) (start .0) ⌝ }
-{
-    let from = start.0;
-    let end = image.len() - FOOTER_SIZE;
-    &image[from..end]
 }
 
 // The feed before the first key.
@@ -81,7 +70,7 @@ pub fn next_key(image: &[u8], feed: Feed) -> NextKey
 {
     let start = feed.start;
     let cursor = feed.cursor;
-    let index = index_part(image, start);
+    let index = index::index_part(image, start);
     match index::next(index, start, cursor) {
         Step::Key(on) => NextKey::Key(Feed {
             start,
@@ -110,14 +99,11 @@ pub fn key(image: &[u8], feed: Feed) -> &[u8]
 
 // Decodes an entry's block, which is known to be good: the number of its points.
 fn open_block(image: &[u8], entry: Entry, times: &mut [i64], values: &mut [u64]) -> usize
-    requires { ⌜ (isOk (readBlock entry (blockOf (now image) entry)) ≡ true) × (entry .offset .0 + entry .size ≤ length (now image)) × (length (now image) ≤ imageMost) × (readBlockMost ≤ length (now times)) × (readBlockMost ≤ length (now values)) ⌝ }
+    requires { ⌜ (isOk (readBlock entry (blockOf (now image) entry)) ≡ true) × InImage (now image) entry × (readBlockMost ≤ length (now times)) × (readBlockMost ≤ length (now values)) ⌝ }
     ensures count { λ r. ⌜ BlockPoints.Count r ≡ blockAnswer (readBlock entry (blockOf (now (image .entry)) entry)) ⌝ }
     ensures cells { λ r. ⌜ PointsLaid (readBlock entry (blockOf (now (image .entry)) entry)) (now (times .entry)) (now (times .exit)) (now (values .entry)) (now (values .exit)) ⌝ }
 {
-    let offset = entry.offset;
-    let from = offset.0;
-    let end = from + entry.size as usize;
-    block::read_good(&image[from..end], entry, times, values)
+    block::read_good(index::block_part(image, entry), entry, times, values)
 }
 
 // Decodes the next block of the open key.
@@ -130,7 +116,7 @@ pub fn next_block(image: &[u8], feed: Feed, times: &mut [i64], values: &mut [u64
     if cursor.left == 0 {
         return NextBlock::End;
     }
-    let index = index_part(image, start);
+    let index = index::index_part(image, start);
     let Step::Entry(entry, on) = index::next(index, start, cursor) else {
         return NextBlock::End;
     };
@@ -159,13 +145,10 @@ pub fn past_block(feed: Feed) -> Feed
 
 // The number of points of an entry's block, which is known to be good.
 fn count_block(image: &[u8], entry: Entry) -> usize
-    requires { ⌜ (isOk (readBlock entry (blockOf (now image) entry)) ≡ true) × (entry .offset .0 + entry .size ≤ length (now image)) ⌝ }
+    requires { ⌜ (isOk (readBlock entry (blockOf (now image) entry)) ≡ true) × InImage (now image) entry ⌝ }
     ensures { λ r. ⌜ BlockPoints.Count r ≡ blockAnswer (readBlock entry (blockOf (now (image .entry)) entry)) ⌝ }
 {
-    let offset = entry.offset;
-    let from = offset.0;
-    let end = from + entry.size as usize;
-    block::count_good(&image[from..end], entry)
+    block::count_good(index::block_part(image, entry), entry)
 }
 
 // The number of points of the open key whose blocks are not decoded yet. It decodes none; the feed stays.
@@ -174,7 +157,7 @@ pub fn count_points(image: &[u8], feed: Feed) -> usize
     ensures { λ r. ⌜ r ≡ length (blocksLeft (now (image .entry)) feed) ⌝ }
 {
     let start = feed.start;
-    let index = index_part(image, start);
+    let index = index::index_part(image, start);
     let mut cursor = feed.cursor;
     let mut count: usize = 0;
     while cursor.left != 0 {

@@ -8,7 +8,6 @@ ghost use Rattle.feed.specs.Feeds.{Stands, Done};
 ghost use Rattle.key_merge.specs.Turns.{orderedTurn, TurnAs, EntrySkipped, KeyDone, differs, meaningOf};
 use feed::Feed;
 use feed::NextKey;
-use format::FOOTER_SIZE;
 use index::Step;
 
 // The next key of a merge, and which images have it. The feed of an image that has it is at the key; any other stays.
@@ -96,9 +95,8 @@ fn skip_entry(image: &[u8], feed: Feed) -> Feed
 {
     let start = feed.start;
     let cursor = feed.cursor;
-    let from = start.0;
-    let end = image.len() - FOOTER_SIZE;
-    let Step::Entry(_, on) = index::next(&image[from..end], start, cursor) else {
+    let index = index::index_part(image, start);
+    let Step::Entry(_, on) = index::next(index, start, cursor) else {
         return feed;
     };
     Feed {

@@ -87,7 +87,7 @@ count-block-requires c κs =
     let n = c .before .before .before in
     let on = c .before .entry .given in
     let known = block-known (image n) (atCursor (feed n .start) (cursor n)) (n .before .before .before .loop .inv .stands) (on .0 .0) (on .0 .1 .0) (step-is n _ (on .1)) in
-    (known .good, known .within)
+    (known .good, known .inside)
 
 add-count : tie.Need-add-count Inv-loop μ-loop
 add-count c = let k = on c in omega (arith, k .few, k .stands .sound .entries, k .stands .sound .image)

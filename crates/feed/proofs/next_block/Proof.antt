@@ -3,7 +3,6 @@ use borrow.Author.Needs.{needs}
 use Prim.Native.Nat.{ℕ}
 use mathlib.Core.Path.{_≡_, refl, ap, sym, subst, _∙_}
 use mathlib.Core.List.{List}
-use native.Mathlib.Omega.{arith}
 use Rattle.format.specs.declared.Entry.{Entry}
 use Rattle.format.specs.Block.{readBlock}
 use Rattle.format.specs.File.{blockOf}
@@ -12,6 +11,7 @@ use Rattle.index.specs.Cursors.{stepAt, Sound}
 use Rattle.block.proofs.Answers.{answer-points}
 use Rattle.feed.specs.declared.Feed.{Feed}
 use Rattle.index.specs.Frames.{indexPart}
+use Rattle.index.proofs.Frames.{part-start}
 use Rattle.feed.proofs.Standing.{starts}
 use Rattle.feed.proofs.Blocks.{entry-tag, no-block, block-step, block-known, block-opened}
 use Rattle.feed.proofs.next_block.Statement.{statement}
@@ -37,8 +37,7 @@ returns c =
 index-part-requires : tie.Need-index-part-requires
 index-part-requires c κs =
     let p = c .before .before .before .before .before .before in
-    let st = starts (p .args .image .now) (p .args .feed) (p .pre .0) in
-    omega (arith, st .start, st .framed)
+    part-start _ _ (starts (p .args .image .now) (p .args .feed) (p .pre .0))
 
 next-requires : tie.Need-next-requires
 next-requires c κs =
@@ -61,7 +60,7 @@ open-block-requires c κs =
     let p = c .before .before .before .before .before .before .before .before .before .before .before .before .before in
     let on = c .before .before .before .entry .given in
     let known = block-known (p .args .image .now) (p .args .feed) (p .pre .0) (on .0 .0) (on .0 .1 .0) (step-is (c .before .before .before .before .before) (Step.Entry (on .0 .0) (on .0 .1 .0)) (on .1)) in
-    (known .good, known .within, known .most, p .pre .1, p .pre .2)
+    (known .good, known .inside, p .pre .1, p .pre .2)
 
 same-length : tie.Need-same-length
 same-length c = search needs
