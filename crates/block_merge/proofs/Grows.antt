@@ -9,7 +9,7 @@ use lib.IntN.{ℤ}
 use Rattle.format.specs.Limits.{writerBlockMost}
 use Rattle.merging.proofs.Walk.{points-end}
 use Rattle.format.specs.Block.{filled}
-use Rattle.format.proofs.Points.{cells-none}
+use Rattle.format.proofs.Cells.{cells-none}
 use Rattle.block_merge.specs.declared.Merged.{Merged}
 use Rattle.block_merge.specs.Cells.{BlocksMoved, BlockCopied, Grown}
 

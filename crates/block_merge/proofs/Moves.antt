@@ -7,7 +7,7 @@ use Prim.Native.Nat.{ℕ, _+_, _≤_, _<_}
 use mathlib.Core.Path.{_≡_, refl, sym, ap, ap₂, _∙_}
 use mathlib.Core.Logic.{⊎-elim}
 use mathlib.Core.Bool.{Bool, true, false}
-use mathlib.Core.List.{List, [], _∷_, _++_, append-assoc}
+use mathlib.Core.List.{List, _∷_, _++_, append-assoc}
 use native.Mathlib.Omega.{arith}
 use lib.IntN.{ℤ, pos}
 use lib.ListN.{length, getD, set}
@@ -17,7 +17,7 @@ use Rattle.format.specs.Choice.{if_then_else_}
 use Rattle.format.specs.Meaning.{Point, pointOf}
 use Rattle.format.specs.Merge.{mergePoints}
 use Rattle.format.proofs.Orders.{time-irreflexive, time-transitive, time-total}
-use Rattle.format.proofs.Points.{cells-next}
+use Rattle.format.proofs.Cells.{cells-next}
 use Rattle.merging.proofs.Walk.{points-older, points-newer, points-both}
 use Rattle.format.specs.Block.{cells, filled}
 use Rattle.builder.proofs.Fills.{fuller-is}

@@ -24,7 +24,8 @@ use Rattle.builder.specs.Open.{entriesLeft}
 use Rattle.numbers.specs.Laying.{Room}
 use Rattle.builder.specs.Steps.{FlushFits, ExtendFits, EndFits, CountFits, KeyFits, Closed, keyEnd, stays, fillPlaces, flushPlaces, flushBytes, extendPlaces, extendBytes, extendFill, endPlaces, endBytes}
 use Rattle.builder.proofs.Lefts.{Ends, ends-full, ends-last, grown-entries}
-use Rattle.builder.proofs.Fills.{filled-length, extend-stays, extend-flushes, extend-fill}
+use Rattle.builder.proofs.Fills.{extend-stays, extend-flushes, extend-fill}
+use Rattle.format.proofs.Cells.{filled-length}
 use Rattle.builder.proofs.Futures.{end-future}
 use Rattle.builder.proofs.Extends.{fits-same, extend-future, flush-room, flush-kept, entries-length}
 use Rattle.builder.specs.Passes.{Near, KeyRoom, KeyOpen, Filling, Past}

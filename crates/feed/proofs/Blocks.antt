@@ -30,7 +30,7 @@ use Rattle.index.proofs.Steps.{on-entry, good-entry}
 use Rattle.index.proofs.Taken.{none-left, good-take, entry-past}
 use Rattle.block.proofs.Answers.{PointsAre}
 use Rattle.block.proofs.Bodies.{block-few}
-use Rattle.format.proofs.Points.{points-back, cells-first}
+use Rattle.format.proofs.Cells.{cells-first, points-back}
 use Rattle.feed.specs.declared.Feed.{Feed}
 use Rattle.index.specs.Frames.{indexPart, InImage}
 use Rattle.index.proofs.Frames.{in-image}

@@ -12,7 +12,7 @@ use Rattle.index.specs.Cursors.{stepAt}
 use Rattle.index.proofs.Taken.{entry-past}
 use Rattle.feed.specs.declared.Feed.{Feed}
 use Rattle.index.specs.Frames.{indexPart}
-use Rattle.feed.specs.Feeds.{entriesLeft, keysLeft, blocksLeft, seriesLeft, Stands, atCursor}
+use Rattle.feed.specs.Feeds.{entriesLeft, keysLeft, Stands, atCursor}
 use Rattle.feed.proofs.Blocks.{entry-passed}
 use Rattle.key_merge.specs.Turns.{EntrySkipped}
 

@@ -19,7 +19,7 @@ use Rattle.format.specs.Block.{filled}
 use Rattle.builder.specs.declared.Places.{Places}
 use Rattle.builder.specs.Steps.{ExtendFits, Closed, extendPlaces, extendBytes}
 use Rattle.builder.specs.Passes.{Near, Filling, Past}
-use Rattle.builder.proofs.Fills.{filled-length}
+use Rattle.format.proofs.Cells.{filled-length}
 use Rattle.builder.proofs.Passes.{past-key, extend-fits, extend-filling, extend-same}
 use Rattle.feed.specs.declared.Feed.{Feed}
 use Rattle.feed.specs.Feeds.{blocksLeft, pointsLeft, seriesLeft, Stands, Done}

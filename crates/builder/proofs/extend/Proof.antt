@@ -7,7 +7,8 @@ use native.Mathlib.Omega.{arith}
 use Rattle.format.specs.Meaning.{Point}
 use Rattle.format.specs.Block.{filled}
 use Rattle.builder.specs.Steps.{fillPlaces, flushPlaces, flushBytes}
-use Rattle.builder.proofs.Fills.{filled-length, more-room, more-fit, stays-few, stays-full, extend-stays, extend-flushes}
+use Rattle.builder.proofs.Fills.{more-room, more-fit, stays-few, stays-full, extend-stays, extend-flushes}
+use Rattle.format.proofs.Cells.{filled-length}
 use borrow.Author.Needs.{needs}
 use Rattle.builder.proofs.extend.Statement.{statement}
 use Rattle.builder.proofs.extend.Tie as tie
