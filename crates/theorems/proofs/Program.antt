@@ -21,7 +21,7 @@ use Rattle.format.proofs.Cases.{below-or}
 use Rattle.acceptance.proofs.Accepted.{keeps-exactly}
 use Rattle.file_laws.proofs.Sizes.{image-most}
 use Rattle.format.proofs.Results.{Only}
-use Rattle.roll.proofs.Rolls.{roll-read, roll-refused}
+use Rattle.roll.proofs.Rolls.{whole-read, roll-refused}
 use Rattle.theorems.specs.Files.{Accepted, OurFile, UnrollGives}
 use Rattle.theorems.specs.Program.{line19, line20, line22, Tried, Program}
 use Rattle.theorems.proofs.Ours.{ours-accepted}
@@ -94,7 +94,7 @@ said roll m h e = go (outcome m lent)
 -- a roll that fits its buffer has an image below the limit
 small : (roll : List ℕ) (m : Meaning) → Tried roll m → length (writerImage m) ≤ imageMost
 small roll m t =
-    let s = roll-read roll m (t .good .bytes) (t .good .reads) in
+    let s = whole-read roll m (t .good .bytes) (t .good .reads) in
     omega (arith, t .heard, image-most m (s .good), ap length (s .only))
 
 module _ (roll : List ℕ) (m : Meaning) (t : Tried roll m) where
@@ -133,7 +133,7 @@ module _ (roll : List ℕ) (m : Meaning) (t : Tried roll m) where
 
     ours : OurFile (programOutput roll) m
     ours = record {
-      ordered = roll-read roll m (t .good .bytes) (t .good .reads) .good;
+      ordered = whole-read roll m (t .good .bytes) (t .good .reads) .good;
       written = output;
       fits = subst (λ (i : List ℕ). length i ≤ imageMost) (sym output) (small roll m t);
     }
