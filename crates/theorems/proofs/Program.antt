@@ -21,9 +21,7 @@ use Rattle.format.proofs.Cases.{below-or}
 use Rattle.acceptance.proofs.Accepted.{keeps-exactly}
 use Rattle.file_laws.proofs.Sizes.{image-most}
 use Rattle.format.proofs.Results.{Only}
-use Rattle.roll.proofs.RollRefusals.{roll-refused}
-use Rattle.roll.proofs.Unique.{roll-unique}
-use Rattle.roll.proofs.Good.{roll-good}
+use Rattle.roll.proofs.Rolls.{whole-read, roll-refused}
 use Rattle.theorems.specs.Files.{Accepted, OurFile, UnrollGives}
 use Rattle.theorems.specs.Program.{line19, line20, line22, Tried, Program}
 use Rattle.theorems.proofs.Ours.{ours-accepted}
@@ -96,8 +94,8 @@ said roll m h e = go (outcome m lent)
 -- a roll that fits its buffer has an image below the limit
 small : (roll : List ℕ) (m : Meaning) → Tried roll m → length (writerImage m) ≤ imageMost
 small roll m t =
-    let g = t .good in
-    omega (arith, t .heard, image-most m (roll-good roll m (g .bytes) (g .reads)), ap length (roll-unique roll m (g .bytes) (g .reads)))
+    let s = whole-read roll m (t .good .bytes) (t .good .reads) in
+    omega (arith, t .heard, image-most m (s .good), ap length (s .only))
 
 module _ (roll : List ℕ) (m : Meaning) (t : Tried roll m) where
   is : Said roll m
@@ -135,7 +133,7 @@ module _ (roll : List ℕ) (m : Meaning) (t : Tried roll m) where
 
     ours : OurFile (programOutput roll) m
     ours = record {
-      ordered = roll-good roll m (t .good .bytes) (t .good .reads);
+      ordered = whole-read roll m (t .good .bytes) (t .good .reads) .good;
       written = output;
       fits = subst (λ (i : List ℕ). length i ≤ imageMost) (sym output) (small roll m t);
     }
