@@ -1,22 +1,20 @@
 -- How many points a good block has, by its timestamps.
 --   head-known            T is a number
 --   Counted, counted      the timestamps after it: they are read, and there are as many as points
-use Prim.Native.Nat.{ℕ, _+_, _-_, _≤_, _<_}
+use Prim.Native.Nat.{ℕ, _+_, _-_, _≤_}
 use mathlib.Core.Path.{_≡_, sym, ap, _∙_}
 use mathlib.Core.Bool.{true}
 use mathlib.Core.List.{List}
-use mathlib.Core.Logic.{⊎-elim}
 use native.Mathlib.Omega.{arith}
 use lib.IntN.{ℤ}
-use lib.ListN.{length, take, drop}
+use lib.ListN.{length, take, drop, length-drop}
 use Rattle.format.specs.declared.Kind.{Kind}
 use Rattle.format.specs.declared.Entry.{Entry}
 use Rattle.format.specs.Refusals.{Result, ok, refused, isOk}
-use Rattle.format.specs.Meaning.{Point}
 use Rattle.format.specs.Timestamps.{readTimes}
-use Rattle.format.specs.Block.{readValues, readBlock}
-use Rattle.format.proofs.Cases.{below-or}
-use Rattle.format.proofs.Results.{shifted, refused-not, ok-path, bind-ok}
+use Rattle.format.specs.Block.{readBlock}
+use Rattle.format.proofs.Results.{shifted, refused-not, ok-path}
+use Rattle.format.proofs.Readings.{sections-parts}
 use Rattle.format.proofs.Points.{points-length}
 use Rattle.numbers.specs.declared.Varint.the-variants.{Number, Broken}
 use Rattle.numbers.specs.VarintAt.{varintAt}
@@ -25,33 +23,13 @@ use Rattle.timestamps.specs.Reading.{timesAnswer}
 use Rattle.block.specs.declared.BlockPoints.{BlockPoints}
 use Rattle.block.specs.declared.BlockPoints.the-variants.{Count}
 use Rattle.block.specs.Answers.{blockAnswer}
-use Rattle.block.specs.Parts.{readParts}
 use Rattle.booleans.proofs.Values.{values-count}
 use Rattle.block.proofs.Sections.{times-at}
-use Rattle.block.proofs.Bodies.{Good, sections-broken, sections-empty, sections-long, sections-parts}
+use Rattle.block.proofs.Bodies.{Good, head-number, sections-broken}
 
 unshifted : (d : ℕ) (a : Result (List ℤ)) (ts : List ℤ) → shifted d a ≡ ok ts → a ≡ ok ts
 unshifted d (ok us) ts e = e
 unshifted d (refused r place) ts e = refused-not e
-
--- the times of a section, of which there are n
-record TimesOf (n : ℕ) (s : List ℕ) : Type 0 where
-  times : List ℤ
-  read : readTimes 0 s ≡ ok times
-  count : length times ≡ n
-
-parts-times-of : (kind : Kind) (offset next split : ℕ) (s : List ℕ) (ps : List Point) → readParts kind offset next split s ≡ ok ps → TimesOf (length ps) (take (split - next) (drop next s))
-unfolding readParts
-parts-times-of kind offset next split s ps e =
-    let part = take (split - next) (drop next s) in
-    let a = bind-ok (readTimes (next + offset) part) _ ps e in
-    let b = bind-ok (readValues kind (length (a .0)) (split + offset) (drop split s)) _ ps (a .2) in
-    let many = points-length (a .0) (b .0) (values-count kind (length (a .0)) (split + offset) (drop split s) (b .0) (b .1)) in
-    record {
-      times = a .0;
-      read = unshifted (next + offset) (readTimes 0 part) (a .0) (sym (times-at (next + offset) part) ∙ a .1);
-      count = sym many ∙ ap length (ok-path (b .2));
-    }
 
 module _ (entry : Entry) (s : List ℕ) (good : Good entry s) where
   abbrev kind : Kind
@@ -69,25 +47,24 @@ module _ (entry : Entry) (s : List ℕ) (good : Good entry s) where
       pub read : isOk (readTimes 0 (take (next + t - next) (drop next s))) ≡ true
       pub count : (n : ℕ) → sections.Count n ≡ timesAnswer (readTimes 0 (take (next + t - next) (drop next s))) → Count n ≡ blockAnswer (readBlock entry s)
 
-    by-times : next + t ≤ length s → TimesOf (length (good .points)) (take (next + t - next) (drop next s)) → Counted
-    by-times inside ts =
-        record {
-          within = inside;
-          read = ap isOk (ts .read);
-          count = λ n e.
-              let same : sections.Count n ≡ sections.Count (length (ts .times)) = e ∙ ap timesAnswer (ts .read) in
-              let many : n ≡ length (ts .times) = cc in
-              ap {B = BlockPoints} Count (many ∙ ts .count) ∙ sym (ap blockAnswer (good .read));
-        }
-
-    parted : (next ≤ length s) → 1 ≤ t → t < length s - next → Counted
-    parted inside some room =
-        by-times (omega arith)
-        (parts-times-of kind offset next (next + t) s (good .points) (sym (sections-parts kind offset s (good .long) t next number some room) ∙ good .sections))
-
     pub counted : next ≤ length s → Counted
     counted inside =
-        ⊎-elim (λ none. refused-not (sym (sections-empty kind offset s (good .long) t next number none) ∙ good .sections))
-        (λ some. ⊎-elim (λ room. parted inside some room)
-        (λ long. refused-not (sym (sections-long kind offset s (good .long) t next number some long) ∙ good .sections)) (below-or t (length s - next)))
-        (below-or t 1)
+        let p = sections-parts kind (5 + offset) (drop 5 s) (good .points) (good .sections) in
+        let is : _≡_ {A = ℕ × ℕ × List ℕ} (p .T, p .section, p .rest) (t, next + offset, drop next s) =
+        ok-path (sym (p .length-read) ∙ head-number kind offset s (good .long) t next number) in
+        let size : p .T ≡ t = ap (λ (v : ℕ × ℕ × List ℕ). v .0) is in
+        let rest : p .rest ≡ drop next s = ap (λ (v : ℕ × ℕ × List ℕ). v .2) is in
+        let width : next + t - next ≡ p .T = omega arith in
+        let part = take (p .T) (p .rest) in
+        let read : readTimes 0 (take (next + t - next) (drop next s)) ≡ ok (p .times) =
+        rw (width, ← rest) (unshifted (p .section) (readTimes 0 part) (p .times) (sym (times-at (p .section) part) ∙ p .times-read)) in
+        let values = values-count kind (length (p .times)) (p .section + p .T) (drop (p .T) (p .rest)) (p .values) (p .values-read) in
+        let many : length (p .times) ≡ length (good .points) = sym (ap length (p .points) ∙ points-length (p .times) (p .values) values) in
+        record {
+          within = omega (arith, p .less, ap length rest, length-drop next s);
+          read = ap isOk read;
+          count = λ n e.
+              let same : sections.Count n ≡ sections.Count (length (p .times)) = e ∙ ap timesAnswer read in
+              let counts : n ≡ length (p .times) = cc in
+              ap {B = BlockPoints} Count (counts ∙ many) ∙ sym (ap blockAnswer (good .read));
+        }

@@ -25,14 +25,14 @@ use Rattle.format.specs.File.{blockOf, readBlocks, readSeries}
 use Rattle.format.proofs.AllBelow.{below-take, below-drop}
 use Rattle.format.proofs.Orders.{sameTime-path, same-time}
 use Rattle.numbers.proofs.Varints.{readVarint-varint}
-use Rattle.booleans.proofs.Values.{values-count}
+use Rattle.section_laws.proofs.Places.{only-stands, readTimes-stands}
+use Rattle.booleans.proofs.Values.{values-count, readValues-stands}
 use Rattle.acceptance.proofs.Varints.{varint-laid}
 use Rattle.acceptance.proofs.Times.{times-read, read-times}
 use Rattle.acceptance.proofs.Blocks.{values-read, read-values}
 use Rattle.theorems.specs.Faults.{Unless, UnlessSome, endsFault, valuesFault, timesFault, bodyFault, blockFault, blocksFault, seriesFault}
 use Rattle.theorems.proofs.Steps.{Exact, ok-exactly, leb-exactly, eqb-exactly, both-exactly, tested, require-exactly, require-exactly₂, some-exactly, then-exactly, after, within}
 use Rattle.format.proofs.Results.{only-varint}
-use Rattle.theorems.proofs.SectionRefusals.{only-times, only-values}
 
 -- ---- a block
 
@@ -61,7 +61,7 @@ module _ (e : Entry) (place : ℕ) where
   values-exactly section bs times all few =
       let n = length times in
       within (readValues (e .kind) n section bs) (λ values. ok (pointsFrom times values)) ends
-      (some-exactly Values (λ vs. vs) _ (endsFault e times) (readValues (e .kind) n section bs) _ (only-values (e .kind) n section bs)
+      (some-exactly Values (λ vs. vs) _ (endsFault e times) (readValues (e .kind) n section bs) _ (only-stands (readValues-stands (e .kind) 0 n section bs))
       (λ vs r. (read-values (e .kind) n section bs vs all r, values-count (e .kind) n section bs vs r))
       (λ vs (s, count). (
         vs,
@@ -78,7 +78,7 @@ module _ (e : Entry) (place : ℕ) where
       let head = below-take 256 (lit< tt) T bs all in
       within (readTimes section (take T bs))
       (λ times. readValues (e .kind) (length times) (section + T) (drop T bs) >>= λ values. ok (pointsFrom times values)) ends
-      (some-exactly Timestamps (λ ts. ts) _ (λ times. valuesFault e times (drop T bs)) (readTimes section (take T bs)) _ (only-times section (take T bs))
+      (some-exactly Timestamps (λ ts. ts) _ (λ times. valuesFault e times (drop T bs)) (readTimes section (take T bs)) _ (only-stands (readTimes-stands 0 section (take T bs)))
       (λ ts r. read-times section (take T bs) ts head r)
       (λ ts s. (ts, times-read section (take T bs) ts s, refl))
       (λ ts r. values-exactly (section + T) (drop T bs) ts (below-drop 256 T bs all) (omega (arith, read-times section (take T bs) ts head r .few))))

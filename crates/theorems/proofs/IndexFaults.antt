@@ -35,7 +35,7 @@ same t = (λ e. e, λ e. e)
 flat : {T P Q R : Type 0} → T ↔ ((P × Q) × R) → T ↔ (P × Q × R)
 flat h = (λ t. let x = h .0 t in (x .0 .0, x .0 .1, x .1), λ (p, q, r). h .1 ((p, q), r))
 
-pub frame-exactly : {B : Type 0} (image : List ℕ) (g : Unit {0} → Result B) {later : ℕ → Type 0} → Exact (g tt) later
+frame-exactly : {B : Type 0} (image : List ℕ) (g : Unit {0} → Result B) {later : ℕ → Type 0} → Exact (g tt) later
     → Exact (checkFrame image >>= g) (frameFault image later)
 unfolding checkFrame
 frame-exactly image g k =

@@ -3,11 +3,10 @@
 --   point-refused, point-given, point-found   read point
 --   short-block     read block is refused as 19 only where a slice is too short
 use Prim.Native.Nat.{ℕ, _≤_, _<_}
-use mathlib.Core.Path.{_≡_, ap, _∙_}
+use mathlib.Core.Path.{_≡_, sym, ap, _∙_}
 use mathlib.Core.Logic.{_⊎_, inl, inr, ⊎-elim}
 use mathlib.Core.List.{List}
 use mathlib.Core.Option.{Option}
-use native.Mathlib.Omega.{arith}
 use lib.ListN.{length}
 use lib.IntN.{ℤ}
 use Rattle.format.specs.declared.Entry.{Entry}
@@ -22,6 +21,7 @@ use Rattle.format.specs.Acts.{findAnswer, readBlockResult, readBlockAnswer, rea
 use Rattle.format.proofs.Answers.{answer-number}
 use Rattle.format.proofs.Acts.{find-refused, block-given}
 use Rattle.format.proofs.Results.{bind-ok, ok-path}
+use Rattle.theorems.proofs.Steps.{ok-not}
 use Rattle.format.proofs.Cases.{below-or}
 use Rattle.theorems.specs.Demand2.{Follows}
 
@@ -59,8 +59,7 @@ module _ (image key : List ℕ) (t : ℤ) (times values : List ℤ) (e : Entry) 
       (λ (a : length ps ≤ length times).
       ⊎-elim inr
       (λ (b : length ps ≤ length values).
-      let g = ap (λ x. answerOf (counted x)) (block-given image key t e ps f times values a b) in
-      let z : _≡_ {A = ℕ} 0 1 = cc in absurd (omega arith))
+      ok-not (sym (ap (λ x. answerOf (counted x)) (block-given image key t e ps f times values a b)) ∙ h))
       (below-or (length values) (length ps)))
       (below-or (length times) (length ps))
 

@@ -1,6 +1,7 @@
 -- Steps of a reader and the fault that each refuses: a test that is a rule, a step that gives something, and what follows.
 --   Refuses r n          the result is refused with the number n
 --   Exact r F            exactly where F holds of n
+--   ok-not, ok-exactly   a value is not refused
 --   require-exactly, require-exactly₂, some-exactly   a step and what follows it
 --   bind-exactly, then-exactly   a step or what follows
 --   after, within        a last step that is not refused; a step within a step

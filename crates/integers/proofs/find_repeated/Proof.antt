@@ -9,7 +9,7 @@ use Rattle.format.specs.Bytes.{AllBytes}
 use Rattle.numbers.specs.declared.Varint.the-variants.{Number}
 use Rattle.numbers.specs.VarintAt.{varintAt}
 use Rattle.numbers.proofs.VarintPlaces.{varintAt-number, broken-at}
-use Rattle.integers.proofs.Reading.{Stated, repeated-short, repeated-broken, repeated-broken-count, repeated-all, repeated-none}
+use Rattle.integers.proofs.Repeating.{Stated, repeated-short, repeated-broken, repeated-broken-count, repeated-all, repeated-none}
 use Rattle.integers.proofs.find_repeated.Statement.{statement}
 use Rattle.integers.proofs.find_repeated.Tie as tie
 
