@@ -5,7 +5,7 @@
 use mathlib.Core.Path.{_≡_, refl, sym, ap, ap₂, _∙_}
 use mathlib.Core.List.{List, [], _∷_}
 use Prim.Native.Nat.{ℕ, _+_, _*_, _/_, _%_, _^_, _-_, _<_, _≤_}
-use native.Mathlib.Nat.{add-zero, add-assoc, lt-of-lt-of-le}
+use native.Mathlib.Nat.{add-zero, add-assoc, zero-mul, lt-of-lt-of-le}
 use native.Mathlib.Omega.{arith}
 use lib.Pow.{pow-mono, shl-shr, shr-shr}
 use lib.Bits.{bitXor, xor-comm, xor-shr, xor-mod, xor-zero-r}
@@ -53,9 +53,7 @@ next-words k a h y r z =
     ∙ ap (bitXor h) (sym (xor-assoc u v (z * 2 ^ k)) ∙ ap (λ (x : ℕ). bitXor x (z * 2 ^ k)) (whole k y)))
 
 last-words : (k a h y : ℕ) → bitXor (bitXor a (bitXor h (y % 2 ^ k))) (y / 2 ^ k * 2 ^ k) ≡ bitXor a (bitXor h y)
-last-words k a h y =
-    xor-assoc a (bitXor h (y % 2 ^ k)) (y / 2 ^ k * 2 ^ k)
-    ∙ ap (bitXor a) (xor-assoc h (y % 2 ^ k) (y / 2 ^ k * 2 ^ k) ∙ ap (bitXor h) (whole k y))
+last-words k a h y = rw (zero-mul, xor-zero-r (y / 2 ^ k), xor-zero-r a, xor-zero-r y) at (next-words k a h y 0 0)
 
 -- four words as a number, and what is added to them
 abbrev four : ℕ → ℕ → ℕ → ℕ → ℕ
