@@ -1,6 +1,7 @@
--- Multiples of the polynomial: what a bit leaves in the register after some bits is what the lower terms of a multiple leave.
---   terms       the lower terms of a multiple, some bits later
---   multiple    a register of n bits goes by, as n more bits of those terms
+-- Multiples of the polynomial: what the lowest term leaves in the register is what the other terms leave. A term counts by how far it
+-- stands below the highest.
+--   terms      the other terms, some bits of the register later
+--   multiple   a register of n bits leaves the same by them as by the lowest term
 use mathlib.Core.Path.{_≡_, refl, sym, ap, ap₂, _∙_}
 use mathlib.Core.List.{List, [], _∷_}
 use Prim.Native.Nat.{ℕ, zero, suc, _+_, _*_, _/_, _%_, _^_, _<_}
@@ -35,9 +36,9 @@ sum-zero : (n : ℕ) (ds : List ℕ) → sum (λ (d : ℕ). shiftBits (n + d) 0)
 sum-zero n [] = refl
 sum-zero n (d ∷ ds) = rw (bits-zero (n + d)) (sum-zero n ds)
 
--- ---- the lower terms
+-- ---- the other terms
 
--- for a multiple with lower terms ds, n bits of the register x later
+-- ds how far they stand below the highest; n bits of the register x later
 abbrev pub terms : List ℕ → ℕ → ℕ → ℕ
 terms ds n x = sum (λ (d : ℕ). shiftBits (n + d) x) ds
 
@@ -56,7 +57,7 @@ even-at n k y = ap (λ (m : ℕ). shiftBits m (y * 2)) (suc-add n k) ∙ bits-ev
 half-lt-pow : (n x : ℕ) → x < 2 ^ suc n → x / 2 < 2 ^ n
 half-lt-pow n x h = let p : 2 ^ suc n ≡ 2 ^ n * 2 = pow-suc 2 n in omega (arith, h, p)
 
--- e the highest term
+-- e how far the lowest term stands below the highest
 module _ (e : ℕ) (ds : List ℕ) (one-bit : shiftBits e 1 ≡ terms ds 0 1) where
   at-bit : (n b : ℕ) → b < 2 → shiftBits (n + e) b ≡ terms ds n b
   at-bit n =
