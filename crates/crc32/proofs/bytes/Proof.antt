@@ -6,7 +6,7 @@ use Prim.Native.Nat.{ℕ, _≤_, _-_, _+_}
 use lib.ListN.{length, drop}
 use lib.Seq.{drop-length}
 use Rattle.format.specs.Crc32.{crcFrom}
-use Rattle.crc32.proofs.Laws.{one-byte}
+use Rattle.crc32.proofs.ByBytes.{one-byte}
 use Rattle.crc32.proofs.bytes.Statement.{statement}
 use Rattle.crc32.proofs.bytes.Tie as tie
 

@@ -5,7 +5,7 @@ use mathlib.Core.Path.{_≡_, refl, sym, ap, _∙_}
 use Prim.Native.Nat.{ℕ, _≤_, _<_, _-_, _+_, _^_}
 use lib.ListN.{length, drop}
 use Rattle.format.specs.Crc32.{crcFrom}
-use Rattle.crc32.proofs.Laws.{eight}
+use Rattle.crc32.proofs.ByBytes.{eight}
 use Rattle.crc32.proofs.short.Statement.{statement}
 use Rattle.crc32.proofs.short.Tie as tie
 
