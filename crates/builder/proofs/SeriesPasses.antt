@@ -1,6 +1,6 @@
 -- The steps of a pass from key to key: what each asks holds, and after it what the next asks.
 --   good-key, good-points, points-ascend    a good series
---   opened-near, measured-filling, begin-room, begin-filling, begin-near   a key is opened
+--   opened-near, measured-filling, begin-room, begin-filling   a key is opened
 --   series-same, series-room                a key is closed, and series are to come
 --   past-first, past-series                 a place is past every image
 --   series-none                             no series is left
@@ -146,9 +146,6 @@ module _ (laying : Bool) (s : Series) (ss : Meaning) (p : Places) (out : List �
         → writerBlockMost ≤ length times → writerBlockMost ≤ length values → Filling laying (s .kind) (s .points) s′ times values out′
     unfolding beginPlaces
     begin-filling s′ times values out′ e f in-times in-values = rw (e, f) (record { in-times = in-times; in-values = in-values; key = opened-open })
-
-    pub begin-near : Near (beginPlaces (s .key) p .block) (beginPlaces (s .key) p .entry)
-    begin-near = opened-near (s .key) p (good-key s good) block-in entry-in
 
   -- ---- it is closed
 
