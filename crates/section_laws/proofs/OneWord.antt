@@ -7,7 +7,7 @@
 --     wordFor-selector, wordFor-below, wordOpens-wordFor, wordNumbers-wordFor
 --   A word that is read
 --     selector-known             its selector is one of the table
---     wordNumbers-length, wordNumbers-below   how many numbers, and how large
+--     wordNumbers-length, wordNumbers-most, wordNumbers-below   how many numbers, and how large
 --     wordFor-wordNumbers        it is the word of its selector and numbers
 use Prim.Native.Nat.{ℕ, zero, suc, _*_, _/_, _%_, _^_, _≤_, _<_}
 use mathlib.Core.Path.{_≡_, refl, ap₂, sym, subst}
@@ -26,7 +26,7 @@ use Rattle.format.specs.Simple8b.{selectorCount, selectorWidth, pack, unpack, w
 use Rattle.format.proofs.AllBelow.{below-nil, below-cons, below-of-every}
 use Rattle.format.proofs.Tests.{both-left, both-right, every-imply}
 use Rattle.section_laws.proofs.Packs.{unpack-pack, pack-below, pack-unpack, unpack-length, unpack-below}
-use Rattle.section_laws.proofs.Selectors.{width-most, used-most, fitsSelector}
+use Rattle.section_laws.proofs.Selectors.{count-most, width-most, used-most, fitsSelector}
 
 -- ---- the bits of a selector's numbers, at any width and count
 
@@ -121,6 +121,9 @@ module _ (word : ℕ) where
   module _ (fits : word < 2 ^ 64) where
     pub selector-known : word / 2 ^ 60 < 16
     selector-known = omega arith
+
+    pub wordNumbers-most : length (wordNumbers word) ≤ 240
+    wordNumbers-most = rw wordNumbers-length (count-most (word / 2 ^ 60) selector-known)
 
     pub wordNumbers-below : AllBelow (2 ^ 60) (wordNumbers word)
     unfolding wordNumbers
