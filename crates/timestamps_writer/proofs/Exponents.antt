@@ -1,5 +1,6 @@
 -- The search for the exponent: the differences before a place are divided by its power of ten, and no larger one divides all.
 --   pass-start, pass-more, pass-stop, pass-end   differences that a scale divides
+--   find-nothing, find-first   there is no difference, or ten does not divide the first
 --   Finding, find-start, find-less, find-end, find-none   the state of the search
 --   twelve   the exponent that no arm but the last names
 use mathlib.Core.Path.{_≡_, refl, sym, ap, _∙_}
@@ -38,6 +39,25 @@ module _ (scale from count : ℕ) (ds : List ℕ) (i : ℕ) (passed : Passing sc
 
 -- ---- the search
 
+-- the power does not divide the difference at r, so it does not divide all
+not-all : (e : ℕ) (ds : List ℕ) (count r : ℕ) → count ≤ length ds → r < count → (getD ds r 0 % 10 ^ e ≡ 0 → ⊥) → divides e (take count ds) ≡ true → ⊥
+not-all e ds count r inside h none all =
+    none
+    (ap (λ (x : ℕ). x % 10 ^ e) (sym (getD-take count ds r 0 h))
+    ∙ eqb-true (getD (take count ds) r 0 % 10 ^ e) 0 (every-at (λ d. eqb (d % 10 ^ e) 0) (take count ds) r 0 all (rw (length-take-le count ds inside) h)))
+
+pub find-nothing : (ds : List ℕ) (count : ℕ) → count ≡ 0 → 12 ≡ exponent 12 (take count ds)
+unfolding exponent
+find-nothing ds count none = rw none
+
+pub find-first : (ds : List ℕ) (count : ℕ) → count ≤ length ds → 0 < count → (getD ds 0 0 % 10 ≡ 0 → ⊥) → 0 ≡ exponent 12 (take count ds)
+find-first ds count inside some none = go (exponent 12 (take count ds)) refl
+  where
+    go : (e : ℕ) → exponent 12 (take count ds) ≡ e → 0 ≡ e
+    go zero same = refl
+    go (suc e) same =
+        absurd (not-all 1 ds count 0 inside some none (divides-less (suc e) 1 (take count ds) (omega arith) (rw same at (exponent-divides (take count ds) 12))))
+
 pub record Finding (ds : List ℕ) (count e i : ℕ) : Type 0 where
   pub most : e ≤ 12
   pub within : i ≤ count
@@ -62,15 +82,9 @@ module _ {ds : List ℕ} {count e i : ℕ} (s : Finding ds count e i) where
         let low = exponent-largest (take count ds) 12 e (s .most) all in
         omega (arith, high)
 
-    -- the power does not divide the difference at r, so it does not divide all
     less : r < count → (j : ℕ) → j ≤ 12 → divides j (take count ds) ≡ true → j ≤ e - 1
     less h j l d =
-        let not-e : j ≡ e → ⊥ =
-        λ same.
-        p .stop h
-        (ap (λ (x : ℕ). x % 10 ^ e) (sym (getD-take count ds r 0 h))
-        ∙ eqb-true (getD (take count ds) r 0 % 10 ^ e) 0
-        (every-at (λ d. eqb (d % 10 ^ e) 0) (take count ds) r 0 (rw same at d) (rw (length-take-le count ds inside) h))) in
+        let not-e : j ≡ e → ⊥ = λ same. not-all e ds count r inside h (p .stop h) (rw same at d) in
         omega (arith, s .upper j l d, not-e)
 
     pub find-less : (r ≡ count → ⊥) → Finding ds count (e - 1) r

@@ -82,8 +82,8 @@ fn pass_power(differences: &[u64], from: usize, count: usize, e: usize) -> usize
     }
 }
 
-// The largest exponent so that its power of ten divides every difference.
-fn find_exponent(differences: &[u64], count: usize) -> usize
+// The largest exponent so that its power of ten divides every difference: each is tried, from 12 down.
+fn search_exponent(differences: &[u64], count: usize) -> usize
     requires { ⌜ count ≤ length (now differences) ⌝ }
     ensures { λ r. ⌜ r ≡ exponent 12 (take count (now (differences .entry))) ⌝ }
 {
@@ -97,6 +97,20 @@ fn find_exponent(differences: &[u64], count: usize) -> usize
         e -= 1;
     }
     e
+}
+
+// The same; where ten does not divide the first difference, as in most blocks of times that are not round, none is tried.
+fn find_exponent(differences: &[u64], count: usize) -> usize
+    requires { ⌜ count ≤ length (now differences) ⌝ }
+    ensures { λ r. ⌜ r ≡ exponent 12 (take count (now (differences .entry))) ⌝ }
+{
+    if count == 0 {
+        return EXPONENT_MOST;
+    }
+    if differences[0] % 10 != 0 {
+        return 0;
+    }
+    search_exponent(differences, count)
 }
 
 // Whether there are differences, all of them equal.
