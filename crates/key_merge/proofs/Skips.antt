@@ -29,6 +29,6 @@ module _ (image : List ℕ) (f : Feed) (s : Stands image f) where
       let one = ap (λ (c : Cursor). c .left) (entry-past index x (f .cursor) (s .sound) (entriesLeft image f) (keysLeft image f) (s .index) v d e) in
       record { stands = go .stands; held = λ h. zero-le; series = go .series; less = λ (h : 0 < f .cursor .left). omega (arith, one) }
 
-  -- where an entry is left, it is passed
+  -- no entry is left, and none is passed
   pub none-skipped : f .cursor .left ≡ 0 → EntrySkipped image f f
   none-skipped none = record { stands = s; held = λ h. h; series = refl; less = λ (h : 0 < f .cursor .left). absurd (omega arith) }
