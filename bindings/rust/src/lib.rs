@@ -393,6 +393,22 @@ mod tests {
         }
     }
 
+    /// The layout that the C tests assert of the header's structs is that of `sys`, field by field.
+    #[test]
+    fn layout_is_that_of_the_header() {
+        let mut lines = Vec::new();
+        for (name, size, fields) in sys::LAYOUT {
+            let name = name.to_lowercase();
+            lines.push(format!("SIZE(tsm_{name}, {size});"));
+            for (field, offset) in *fields {
+                lines.push(format!("AT(tsm_{name}, {field}, {offset});"));
+            }
+        }
+        let asserted = include_str!("../../../tests/c/layout.h").lines();
+        let asserted = asserted.filter(|line| line.ends_with(");"));
+        assert_eq!(asserted.collect::<Vec<_>>(), lines);
+    }
+
     /// The name of a constant of the C header: TSM_NO_POINT of NoPoint.
     fn constant(name: &str) -> String {
         let mut constant = String::from("TSM");

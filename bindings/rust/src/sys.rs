@@ -67,13 +67,17 @@ pub struct Written {
     pub bytes: usize,
 }
 
-/// Asserts the size of structs and the offsets of their fields.
+/// Asserts the size of structs and the offsets of their fields, and keeps them as a table for the tests.
 macro_rules! layout {
     ($($name:ident $size:literal { $($field:ident $offset:literal)* })*) => {
         $(const _: () = {
             assert!(size_of::<$name>() == $size);
             $(assert!(offset_of!($name, $field) == $offset);)*
         };)*
+
+        #[cfg(test)]
+        pub const LAYOUT: &[(&str, usize, &[(&str, usize)])] =
+            &[$((stringify!($name), $size, &[$((stringify!($field), $offset)),*])),*];
     };
 }
 
