@@ -3,17 +3,21 @@
  * An image is the whole of a TSM file, as bytes in memory; a roll is the plain list of its series. A key is a byte
  * string. Times and values are signed 64-bit numbers; the value of a boolean point is 0 or 1.
  *
- * Each function returns TSM_OK, or the number of the one refusal that applies (enum tsm_answer). A refusal leaves every
- * out parameter and every lent buffer as it was. A success writes every out parameter; cells of a buffer past the
- * result are left as they were. Each function is proved to do so for all arguments that keep these rules:
+ * Each function answers a struct by value. Its first part, `answer`, holds TSM_OK, or the number of the one refusal that
+ * applies (enum tsm_refusal). On a refusal every other field is 0, and every lent buffer is left as it was. On a success
+ * the fields hold the result; cells of a buffer past it are left as they were. Each function is proved to do so for all
+ * arguments that keep these rules:
  *
  * - A length counts elements, and the pointer before it points to that many that may be read (or written, for an
  *   output). With length 0 the pointer is never followed, and may be null.
- * - An out parameter that is not a buffer is never null.
  * - An output overlaps no other argument. Inputs may overlap.
  * - Nothing else writes to an argument while the function runs.
  *
- * The functions use no heap and keep no state: several threads may call them at the same time. */
+ * The functions use no heap and keep no state: several threads may call them at the same time. Stack that they need, as
+ * measured: tsm_find 1 KiB, tsm_write 26 KiB, tsm_merge 66 KiB, the others 19 KiB. A thread with 64 KiB of stack is
+ * enough for all but tsm_merge, which crashes in it; one with 128 KiB is enough for all.
+ *
+ * The library is for x86-64. Of the C library it needs memcpy and memset alone. */
 #ifndef TSM_H
 #define TSM_H
 
@@ -31,7 +35,7 @@ extern "C" {
 /* Bytes of a key, at most; at least 1. */
 #define TSM_KEY_MOST 1024
 
-/* Points of a block, at most: buffers of this length are long enough for tsm_read_block. */
+/* Points of a block, at most. */
 #define TSM_BLOCK_MOST 1000
 
 /* What the values of a key are. */
@@ -40,8 +44,8 @@ enum tsm_kind {
     TSM_BOOLEAN = 2
 };
 
-/* What a function returns: success, or why it refuses. */
-enum tsm_answer {
+/* The numbers of an answer: success, or why a function refuses. */
+enum tsm_refusal {
     TSM_OK = 0,
     TSM_IMAGE_LENGTH = 1,     /* the image is shorter than 13 bytes or longer than 1,048,576 */
     TSM_MAGIC = 2,            /* the image does not start with 16 D1 16 D1 */
@@ -68,43 +72,85 @@ enum tsm_answer {
     TSM_NO_POINT = 23         /* the key has no point at exactly this time */
 };
 
+/* Whether a function refuses, and why. */
+struct tsm_answer {
+    uint8_t number; /* TSM_OK, or the refusal (enum tsm_refusal) */
+};
+
+/* An index entry: one block of a key. */
+struct tsm_entry {
+    uint8_t kind;    /* what the values of the key are (enum tsm_kind); 0 on a refusal */
+    uint32_t size;   /* how many bytes the block has, its checksum included */
+    int64_t min;     /* the time of the block's first point */
+    int64_t max;     /* the time of the block's last point */
+    uint64_t offset; /* where the block stands in the image, in bytes from its start */
+};
+
+/* What tsm_check answers. */
+struct tsm_checked {
+    struct tsm_answer answer;
+    uint64_t keys;   /* how many keys the image has */
+    uint64_t points; /* how many points, of all keys */
+};
+
+/* What tsm_find answers. */
+struct tsm_found {
+    struct tsm_answer answer;
+    struct tsm_entry entry; /* the block that covers the time */
+};
+
+/* What tsm_read_block answers. */
+struct tsm_block {
+    struct tsm_answer answer;
+    struct tsm_entry entry; /* the block that was read */
+    size_t count;           /* how many points it has: so many cells of times and of values are written */
+};
+
+/* What tsm_read_point answers. */
+struct tsm_point {
+    struct tsm_answer answer;
+    struct tsm_entry entry; /* the block that holds the point */
+    int64_t value;          /* the point's value */
+};
+
+/* What tsm_write, tsm_unroll and tsm_merge answer. */
+struct tsm_written {
+    struct tsm_answer answer;
+    size_t bytes; /* how many bytes of the output are written */
+};
+
 /* Checks an image in full, every block included, and counts its keys and points.
  * Refusals: 1 to 16. */
-uint8_t tsm_check(const uint8_t *image, size_t image_len, uint64_t *keys, uint64_t *points);
+struct tsm_checked tsm_check(const uint8_t *image, size_t image_len);
 
-/* Finds the index entry whose block covers a time of a key: its kind (enum tsm_kind), its first and last time, and
- * where the block stands in the image and how many bytes it has, its checksum included. The whole index is checked;
- * no block is read.
+/* Finds the index entry whose block covers a time of a key. The whole index is checked; no block is read.
  * Refusals: 1 to 11, 17, 18. */
-uint8_t tsm_find(const uint8_t *image, size_t image_len, const uint8_t *key, size_t key_len, int64_t time,
-                 uint8_t *kind, int64_t *min, int64_t *max, uint64_t *offset, uint32_t *size);
+struct tsm_found tsm_find(const uint8_t *image, size_t image_len, const uint8_t *key, size_t key_len, int64_t time);
 
 /* Reads the block that covers a time of a key: finds its entry as tsm_find does, checks the block, and writes its
- * points to the first *count cells of times and of values.
+ * points to the first cells of times and of values. Buffers of TSM_BLOCK_MOST cells are long enough.
  * Refusals: 1 to 11, 17, 18, 12 to 16, 19. */
-uint8_t tsm_read_block(const uint8_t *image, size_t image_len, const uint8_t *key, size_t key_len, int64_t time,
-                       int64_t *times, size_t times_len, int64_t *values, size_t values_len,
-                       uint8_t *kind, int64_t *min, int64_t *max, uint64_t *offset, uint32_t *size, size_t *count);
+struct tsm_block tsm_read_block(const uint8_t *image, size_t image_len, const uint8_t *key, size_t key_len,
+                                int64_t time, int64_t *times, size_t times_len, int64_t *values, size_t values_len);
 
-/* Reads the value of a key at exactly a time: finds its entry as tsm_find does, checks the block, and writes the value.
+/* Reads the value of a key at exactly a time: finds its entry as tsm_find does, and checks the block.
  * Refusals: 1 to 11, 17, 18, 12 to 16, 23. */
-uint8_t tsm_read_point(const uint8_t *image, size_t image_len, const uint8_t *key, size_t key_len, int64_t time,
-                       uint8_t *kind, int64_t *min, int64_t *max, uint64_t *offset, uint32_t *size, int64_t *value);
+struct tsm_point tsm_read_point(const uint8_t *image, size_t image_len, const uint8_t *key, size_t key_len,
+                                int64_t time);
 
-/* Writes a roll as an image to the first *written bytes of out. A buffer of TSM_IMAGE_MOST bytes is long enough.
+/* Writes a roll as an image to the first bytes of out. A buffer of TSM_IMAGE_MOST bytes is long enough.
  * Refusals: 20, 22, 19. */
-uint8_t tsm_write(const uint8_t *roll, size_t roll_len, uint8_t *out, size_t out_len, size_t *written);
+struct tsm_written tsm_write(const uint8_t *roll, size_t roll_len, uint8_t *out, size_t out_len);
 
-/* Checks an image in full, and writes it as a roll to the first *written bytes of out. A roll may be longer than its
- * image.
+/* Checks an image in full, and writes it as a roll to the first bytes of out. A roll may be longer than its image.
  * Refusals: 1 to 16, 19. */
-uint8_t tsm_unroll(const uint8_t *image, size_t image_len, uint8_t *out, size_t out_len, size_t *written);
+struct tsm_written tsm_unroll(const uint8_t *image, size_t image_len, uint8_t *out, size_t out_len);
 
-/* Checks two images in full, and writes the image of their points to the first *written bytes of out: where both have a
- * point of one key and time, the newer image's. A buffer of TSM_IMAGE_MOST bytes is long enough.
+/* Checks two images in full, and writes the image of their points to the first bytes of out: where both have a point
+ * of one key and time, the newer image's. A buffer of TSM_IMAGE_MOST bytes is long enough.
  * Refusals: 1 to 16 for the older image, 1 to 16 for the newer, 21, 22, 19. */
-uint8_t tsm_merge(const uint8_t *older, size_t older_len, const uint8_t *newer, size_t newer_len,
-                  uint8_t *out, size_t out_len, size_t *written);
+struct tsm_written tsm_merge(const uint8_t *older, size_t older_len, const uint8_t *newer, size_t newer_len,
+                             uint8_t *out, size_t out_len);
 
 #ifdef __cplusplus
 }

@@ -2,7 +2,7 @@
 
 use std::hint::black_box;
 
-use tsm_harness::acts::{Acts, BlockOut, EntryOut, Query, Reference};
+use tsm_harness::acts::{Acts, Query, Reference};
 use tsm_harness::call::{Answer, Call};
 use tsm_harness::lent::Padded;
 use tsm_harness::library::Library;
@@ -77,7 +77,7 @@ impl Case<'_> {
     /// All calls, one after the other.
     pub fn run(&self, acts: &impl Acts, lent: &mut Lent) {
         for call in &self.calls {
-            assert_eq!(black_box(run(acts, call, lent)), 0, "the act answers");
+            assert_eq!(run(acts, call, lent), 0, "the act answers");
         }
     }
 
@@ -105,37 +105,24 @@ impl Case<'_> {
 
 /// Runs the call and answers 0 or the number of a refusal.
 fn run(acts: &impl Acts, call: &Call, lent: &mut Lent) -> u8 {
-    let (mut keys, mut points, mut written, mut value) = (0, 0, 0, 0);
-    let (mut kind, mut min, mut max, mut offset, mut size) = (0, 0, 0, 0, 0);
-    let entry = EntryOut {
-        kind: &mut kind,
-        min: &mut min,
-        max: &mut max,
-        offset: &mut offset,
-        size: &mut size,
-    };
     match *call {
-        Call::Check { image } => acts.check(image, &mut keys, &mut points),
-        Call::Find { query } => acts.find(query, entry),
+        Call::Check { image } => black_box(acts.check(image)).number,
+        Call::Find { query } => black_box(acts.find(query)).number,
         Call::ReadBlock { query, .. } => {
-            let out = BlockOut {
-                times: &mut lent.times,
-                values: &mut lent.values,
-                entry,
-                count: &mut written,
-            };
-            acts.read_block(query, out)
+            black_box(acts.read_block(query, &mut lent.times, &mut lent.values)).number
         }
-        Call::ReadPoint { query } => acts.read_point(query, entry, &mut value),
-        Call::Write { roll, capacity } => acts.write(roll, &mut lent.out[..capacity], &mut written),
+        Call::ReadPoint { query } => black_box(acts.read_point(query)).number,
+        Call::Write { roll, capacity } => {
+            black_box(acts.write(roll, &mut lent.out[..capacity])).number
+        }
         Call::Unroll { image, capacity } => {
-            acts.unroll(image, &mut lent.out[..capacity], &mut written)
+            black_box(acts.unroll(image, &mut lent.out[..capacity])).number
         }
         Call::Merge {
             older,
             newer,
             capacity,
-        } => acts.merge(older, newer, &mut lent.out[..capacity], &mut written),
+        } => black_box(acts.merge(older, newer, &mut lent.out[..capacity])).number,
     }
 }
 

@@ -13,14 +13,10 @@ int main(int argc, char **argv)
     if (!file)
         return fputs("usage: read_point FILE KEY TIME\n", stderr), 2;
     size_t len = fread(image, 1, sizeof image, file);
-    uint8_t kind;
-    uint32_t size;
-    uint64_t offset;
-    int64_t min, max, value, time = strtoll(argv[3], NULL, 10);
-    uint8_t answer = tsm_read_point(image, len, (const uint8_t *)argv[2], strlen(argv[2]), time,
-                                    &kind, &min, &max, &offset, &size, &value);
-    if (answer != TSM_OK)
-        return printf("refused: %d\n", answer), 1;
-    printf("%lld\n", (long long)value);
+    struct tsm_point point =
+        tsm_read_point(image, len, (const uint8_t *)argv[2], strlen(argv[2]), strtoll(argv[3], NULL, 10));
+    if (point.answer.number != TSM_OK)
+        return printf("refused: %d\n", point.answer.number), 1;
+    printf("%lld\n", (long long)point.value);
     return 0;
 }

@@ -1,6 +1,8 @@
-/* The C interface on the worked pieces of document 01 and on small damaged files. Every call is made with out
- * parameters that hold a pattern and with cells beside each output that must stay; inputs lie in memory of exactly
- * their length, so that valgrind sees a step too far. */
+/* The C interface on the worked pieces of document 01 and on small damaged files. Outputs hold a pattern before every
+ * call, with cells beside them that must stay; inputs lie in memory of exactly their length, so that valgrind sees a step
+ * too far. A refusal must hold 0 in every field but its number. */
+#include "layout.h"
+
 #include <stdbool.h>
 #include <stdio.h>
 #include <stdlib.h>
@@ -140,18 +142,8 @@ static Bytes resealed(size_t at, uint8_t byte)
 
 enum { CANARY = 0x5A, MARGIN = 4, CELLS = 16, BYTES = 200 };
 
-/* The out parameters, with room that must stay between them. */
+/* The outputs, with room beside each that must stay. */
 typedef struct {
-    uint8_t kind, room0[15];
-    int64_t min, room1;
-    int64_t max, room2;
-    uint64_t offset, room3;
-    uint32_t size, room4;
-    size_t count, room5;
-    int64_t value, room6;
-    uint64_t keys, room7;
-    uint64_t points, room8;
-    size_t written, room9;
     int64_t times_before[MARGIN], times[CELLS + MARGIN];
     int64_t values_before[MARGIN], values[CELLS + MARGIN];
     uint8_t out_before[8], out[BYTES + 8];
@@ -171,124 +163,184 @@ static bool kept(const Outs *o)
     return memcmp(o, &fresh, sizeof fresh) == 0;
 }
 
-/* Everything but the named outputs is as before: they are put back in a copy. */
-static bool entry_alone(const Outs *o)
-{
-    Outs copy = *o, fresh = untouched();
-    copy.kind = fresh.kind, copy.min = fresh.min, copy.max = fresh.max;
-    copy.offset = fresh.offset, copy.size = fresh.size;
-    return kept(&copy);
-}
-
-static uint8_t check(Bytes image, Outs *o)
+static struct tsm_checked check(Bytes image)
 {
     uint8_t *lent = lend(&image);
-    *o = untouched();
-    uint8_t answer = tsm_check(lent, image.len, &o->keys, &o->points);
+    struct tsm_checked checked = tsm_check(lent, image.len);
     take_back(lent, &image);
-    return answer;
+    return checked;
 }
 
-static uint8_t find(Bytes image, Bytes key, int64_t time, Outs *o)
+static struct tsm_found find(Bytes image, Bytes key, int64_t time)
+{
+    uint8_t *lent = lend(&image), *lent_key = lend(&key);
+    struct tsm_found found = tsm_find(lent, image.len, lent_key, key.len, time);
+    take_back(lent, &image);
+    take_back(lent_key, &key);
+    return found;
+}
+
+static struct tsm_block read_block(Bytes image, Bytes key, int64_t time, size_t times_len, size_t values_len, Outs *o)
 {
     uint8_t *lent = lend(&image), *lent_key = lend(&key);
     *o = untouched();
-    uint8_t answer = tsm_find(lent, image.len, lent_key, key.len, time, &o->kind, &o->min, &o->max, &o->offset, &o->size);
+    struct tsm_block block = tsm_read_block(lent, image.len, lent_key, key.len, time, times_len ? o->times : NULL,
+                                            times_len, values_len ? o->values : NULL, values_len);
     take_back(lent, &image);
     take_back(lent_key, &key);
-    return answer;
+    return block;
 }
 
-static uint8_t read_block(Bytes image, Bytes key, int64_t time, size_t times_len, size_t values_len, Outs *o)
+static struct tsm_point read_point(Bytes image, Bytes key, int64_t time)
 {
     uint8_t *lent = lend(&image), *lent_key = lend(&key);
-    *o = untouched();
-    uint8_t answer = tsm_read_block(lent, image.len, lent_key, key.len, time, times_len ? o->times : NULL, times_len,
-                                    values_len ? o->values : NULL, values_len, &o->kind, &o->min, &o->max, &o->offset,
-                                    &o->size, &o->count);
+    struct tsm_point point = tsm_read_point(lent, image.len, lent_key, key.len, time);
     take_back(lent, &image);
     take_back(lent_key, &key);
-    return answer;
-}
-
-static uint8_t read_point(Bytes image, Bytes key, int64_t time, Outs *o)
-{
-    uint8_t *lent = lend(&image), *lent_key = lend(&key);
-    *o = untouched();
-    uint8_t answer = tsm_read_point(lent, image.len, lent_key, key.len, time, &o->kind, &o->min, &o->max, &o->offset,
-                                    &o->size, &o->value);
-    take_back(lent, &image);
-    take_back(lent_key, &key);
-    return answer;
+    return point;
 }
 
 /* tsm_write or tsm_unroll. */
-typedef uint8_t Lay(const uint8_t *, size_t, uint8_t *, size_t, size_t *);
+typedef struct tsm_written Lay(const uint8_t *, size_t, uint8_t *, size_t);
 
-static uint8_t lay(Lay *act, Bytes input, size_t out_len, Outs *o)
+static struct tsm_written lay(Lay *act, Bytes input, size_t out_len, Outs *o)
 {
     uint8_t *lent = lend(&input);
     *o = untouched();
-    uint8_t answer = act(lent, input.len, out_len ? o->out : NULL, out_len, &o->written);
+    struct tsm_written written = act(lent, input.len, out_len ? o->out : NULL, out_len);
     take_back(lent, &input);
-    return answer;
+    return written;
 }
 
-static uint8_t write_roll(Bytes roll, size_t out_len, Outs *o)
-{
-    return lay(tsm_write, roll, out_len, o);
-}
-
-static uint8_t unroll(Bytes image, size_t out_len, Outs *o)
-{
-    return lay(tsm_unroll, image, out_len, o);
-}
-
-static uint8_t merge(Bytes older, Bytes newer, size_t out_len, Outs *o)
+static struct tsm_written merge(Bytes older, Bytes newer, size_t out_len, Outs *o)
 {
     uint8_t *lent_older = lend(&older), *lent_newer = lend(&newer);
     *o = untouched();
-    uint8_t answer = tsm_merge(lent_older, older.len, lent_newer, newer.len, out_len ? o->out : NULL, out_len, &o->written);
+    struct tsm_written written =
+        tsm_merge(lent_older, older.len, lent_newer, newer.len, out_len ? o->out : NULL, out_len);
     take_back(lent_older, &older);
     take_back(lent_newer, &newer);
-    return answer;
+    return written;
 }
 
 /* ---- what is expected */
 
+static bool is_entry(struct tsm_entry e, uint8_t kind, uint32_t size, int64_t min, int64_t max, uint64_t offset)
+{
+    return e.kind == kind && e.size == size && e.min == min && e.max == max && e.offset == offset;
+}
+
+static bool is_zero(struct tsm_entry e)
+{
+    return is_entry(e, 0, 0, 0, 0, 0);
+}
+
+/* Each act refuses by this number; every other field is 0, and nothing is written. */
+static bool check_refuses(Bytes image, uint8_t number)
+{
+    struct tsm_checked checked = check(image);
+    return checked.answer.number == number && checked.keys == 0 && checked.points == 0;
+}
+
+static bool find_refuses(Bytes image, Bytes key, int64_t time, uint8_t number)
+{
+    struct tsm_found found = find(image, key, time);
+    return found.answer.number == number && is_zero(found.entry);
+}
+
+static bool read_block_refuses(Bytes image, Bytes key, int64_t time, size_t times_len, size_t values_len, uint8_t number)
+{
+    Outs o;
+    struct tsm_block block = read_block(image, key, time, times_len, values_len, &o);
+    return block.answer.number == number && is_zero(block.entry) && block.count == 0 && kept(&o);
+}
+
+static bool read_point_refuses(Bytes image, Bytes key, int64_t time, uint8_t number)
+{
+    struct tsm_point point = read_point(image, key, time);
+    return point.answer.number == number && is_zero(point.entry) && point.value == 0;
+}
+
+static bool refused(struct tsm_written written, Outs o, uint8_t number)
+{
+    return written.answer.number == number && written.bytes == 0 && kept(&o);
+}
+
+static bool write_refuses(Bytes roll, size_t out_len, uint8_t number)
+{
+    Outs o;
+    struct tsm_written written = lay(tsm_write, roll, out_len, &o);
+    return refused(written, o, number);
+}
+
+static bool unroll_refuses(Bytes image, size_t out_len, uint8_t number)
+{
+    Outs o;
+    struct tsm_written written = lay(tsm_unroll, image, out_len, &o);
+    return refused(written, o, number);
+}
+
+static bool merge_refuses(Bytes older, Bytes newer, size_t out_len, uint8_t number)
+{
+    Outs o;
+    struct tsm_written written = merge(older, newer, out_len, &o);
+    return refused(written, o, number);
+}
+
 /* These bytes were written, and nothing past them. */
-static bool wrote(Outs o, Bytes expected)
+static bool wrote(struct tsm_written written, Outs o, Bytes expected)
 {
     Outs fresh = untouched();
-    if (o.written != expected.len || memcmp(o.out, expected.bytes, expected.len) != 0)
+    if (written.answer.number != TSM_OK || written.bytes != expected.len)
         return false;
-    o.written = fresh.written;
+    if (memcmp(o.out, expected.bytes, expected.len) != 0)
+        return false;
     memcpy(o.out, fresh.out, expected.len);
     return kept(&o);
+}
+
+/* A roll is written, an image unrolled, or two merged, in a buffer of this length, as these bytes. */
+static bool writes(Bytes roll, size_t out_len, Bytes expected)
+{
+    Outs o;
+    struct tsm_written written = lay(tsm_write, roll, out_len, &o);
+    return wrote(written, o, expected);
+}
+
+static bool unrolls(Bytes image, size_t out_len, Bytes expected)
+{
+    Outs o;
+    struct tsm_written written = lay(tsm_unroll, image, out_len, &o);
+    return wrote(written, o, expected);
+}
+
+static bool merges_to(Bytes older, Bytes newer, size_t out_len, Bytes expected)
+{
+    Outs o;
+    struct tsm_written written = merge(older, newer, out_len, &o);
+    return wrote(written, o, expected);
 }
 
 /* All four acts refuse an image, and write nothing. */
 static void all_refuse(const char *what, Bytes image, uint8_t number)
 {
-    Outs o;
     Bytes a = hex("61");
     about = what;
-    EXPECT(check(image, &o) == number && kept(&o));
-    EXPECT(find(image, a, 0, &o) == number && kept(&o));
-    EXPECT(read_block(image, a, 0, CELLS, CELLS, &o) == number && kept(&o));
-    EXPECT(read_point(image, a, 0, &o) == number && kept(&o));
+    EXPECT(check_refuses(image, number));
+    EXPECT(find_refuses(image, a, 0, number));
+    EXPECT(read_block_refuses(image, a, 0, CELLS, CELLS, number));
+    EXPECT(read_point_refuses(image, a, 0, number));
 }
 
 /* The acts that read the block refuse an image whose index is good. */
 static void block_refused(const char *what, Bytes image, uint8_t number)
 {
-    Outs o;
     Bytes a = hex("61");
     about = what;
-    EXPECT(check(image, &o) == number && kept(&o));
-    EXPECT(find(image, a, 0, &o) == TSM_OK);
-    EXPECT(read_block(image, a, 0, CELLS, CELLS, &o) == number && kept(&o));
-    EXPECT(read_point(image, a, 0, &o) == number && kept(&o));
+    EXPECT(check_refuses(image, number));
+    EXPECT(find(image, a, 0).answer.number == TSM_OK);
+    EXPECT(read_block_refuses(image, a, 0, CELLS, CELLS, number));
+    EXPECT(read_point_refuses(image, a, 0, number));
 }
 
 /* An image of key "a" with one block has n points; every act says so, and writes nothing else. */
@@ -296,31 +348,32 @@ static void has_points(const char *what, Bytes image, uint8_t kind, size_t n, co
 {
     Outs o, fresh = untouched();
     Bytes a = hex("61");
+    int64_t min = times[0], max = times[n - 1];
+    uint32_t size = (uint32_t)image.len - 47; /* without header, index and footer */
     about = what;
 
-    EXPECT(check(image, &o) == TSM_OK && o.keys == 1 && o.points == n);
-    o.keys = fresh.keys, o.points = fresh.points;
-    EXPECT(kept(&o));
+    struct tsm_checked checked = check(image);
+    EXPECT(checked.answer.number == TSM_OK && checked.keys == 1 && checked.points == n);
 
     for (size_t i = 0; i < n; i++) {
-        EXPECT(find(image, a, times[i], &o) == TSM_OK && o.kind == kind && o.min == times[0] && o.max == times[n - 1]);
-        EXPECT(o.offset == 5 && o.size + 5u == image.len - 42 && entry_alone(&o));
+        struct tsm_found found = find(image, a, times[i]);
+        EXPECT(found.answer.number == TSM_OK && is_entry(found.entry, kind, size, min, max, 5));
 
-        EXPECT(read_point(image, a, times[i], &o) == TSM_OK && o.value == values[i]);
-        EXPECT(o.kind == kind && o.min == times[0] && o.max == times[n - 1]);
-        o.value = fresh.value;
-        EXPECT(entry_alone(&o));
+        struct tsm_point point = read_point(image, a, times[i]);
+        EXPECT(point.answer.number == TSM_OK && is_entry(point.entry, kind, size, min, max, 5));
+        EXPECT(point.value == values[i]);
 
-        EXPECT(read_block(image, a, times[i], n + i, n, &o) == TSM_OK && o.count == n);
+        struct tsm_block block = read_block(image, a, times[i], n + i, n, &o);
+        EXPECT(block.answer.number == TSM_OK && is_entry(block.entry, kind, size, min, max, 5));
+        EXPECT(block.count == n);
         EXPECT(memcmp(o.times, times, n * sizeof *times) == 0 && memcmp(o.values, values, n * sizeof *values) == 0);
-        o.count = fresh.count;
         memcpy(o.times, fresh.times, n * sizeof *times);
         memcpy(o.values, fresh.values, n * sizeof *values);
-        EXPECT(entry_alone(&o));
+        EXPECT(kept(&o));
     }
 
-    EXPECT(read_block(image, a, times[0], n - 1, n, &o) == TSM_SHORT_BUFFER && kept(&o));
-    EXPECT(read_block(image, a, times[0], n, n - 1, &o) == TSM_SHORT_BUFFER && kept(&o));
+    EXPECT(read_block_refuses(image, a, times[0], n - 1, n, TSM_SHORT_BUFFER));
+    EXPECT(read_block_refuses(image, a, times[0], n, n - 1, TSM_SHORT_BUFFER));
 }
 
 static void worked_pieces(void)
@@ -354,11 +407,11 @@ static void worked_pieces(void)
 
 static void bare_image(void)
 {
-    Outs o;
     Bytes bare = hex("16 D1 16 D1 01 00 00 00 00 00 00 00 05"), none = {.len = 0}, cut = bare, early = bare;
+    struct tsm_checked checked = check(bare);
     about = "bare image";
-    EXPECT(check(bare, &o) == TSM_OK && o.keys == 0 && o.points == 0);
-    EXPECT(find(bare, hex("61"), 0, &o) == TSM_NO_SUCH_KEY && kept(&o));
+    EXPECT(checked.answer.number == TSM_OK && checked.keys == 0 && checked.points == 0);
+    EXPECT(find_refuses(bare, hex("61"), 0, TSM_NO_SUCH_KEY));
     cut.len = 12;
     early.bytes[12] = 4;
     all_refuse("twelve bytes", cut, TSM_IMAGE_LENGTH);
@@ -403,43 +456,40 @@ static void questions(void)
     Bytes image = sample(), a = hex("61"), none = {.len = 0}, longest = {.len = TSM_KEY_MOST + 1};
     memset(longest.bytes, 'a', longest.len);
     about = "questions";
-    EXPECT(find(image, hex("62"), 0, &o) == TSM_NO_SUCH_KEY && kept(&o));
-    EXPECT(find(image, hex("6161"), 0, &o) == TSM_NO_SUCH_KEY && kept(&o));
-    EXPECT(find(image, none, 0, &o) == TSM_NO_SUCH_KEY && kept(&o));
-    EXPECT(find(image, longest, 0, &o) == TSM_NO_SUCH_KEY && kept(&o));
-    EXPECT(find(image, a, -1, &o) == TSM_NO_ENTRY && kept(&o));
-    EXPECT(find(image, a, 21, &o) == TSM_NO_ENTRY && kept(&o));
-    EXPECT(find(image, a, INT64_MIN, &o) == TSM_NO_ENTRY && kept(&o));
-    EXPECT(read_block(image, none, 0, CELLS, CELLS, &o) == TSM_NO_SUCH_KEY && kept(&o));
-    EXPECT(read_block(image, a, 21, CELLS, CELLS, &o) == TSM_NO_ENTRY && kept(&o));
-    EXPECT(read_block(image, a, 5, CELLS, CELLS, &o) == TSM_OK && o.count == 3);
-    EXPECT(read_block(image, a, 5, 0, 0, &o) == TSM_SHORT_BUFFER && kept(&o));
-    EXPECT(read_point(image, none, 0, &o) == TSM_NO_SUCH_KEY && kept(&o));
-    EXPECT(read_point(image, a, 21, &o) == TSM_NO_ENTRY && kept(&o));
-    EXPECT(read_point(image, a, 5, &o) == TSM_NO_POINT && kept(&o));
+    EXPECT(find_refuses(image, hex("62"), 0, TSM_NO_SUCH_KEY));
+    EXPECT(find_refuses(image, hex("6161"), 0, TSM_NO_SUCH_KEY));
+    EXPECT(find_refuses(image, none, 0, TSM_NO_SUCH_KEY));
+    EXPECT(find_refuses(image, longest, 0, TSM_NO_SUCH_KEY));
+    EXPECT(find_refuses(image, a, -1, TSM_NO_ENTRY));
+    EXPECT(find_refuses(image, a, 21, TSM_NO_ENTRY));
+    EXPECT(find_refuses(image, a, INT64_MIN, TSM_NO_ENTRY));
+    EXPECT(read_block_refuses(image, none, 0, CELLS, CELLS, TSM_NO_SUCH_KEY));
+    EXPECT(read_block_refuses(image, a, 21, CELLS, CELLS, TSM_NO_ENTRY));
+    EXPECT(read_block_refuses(image, a, 5, 0, 0, TSM_SHORT_BUFFER));
+    EXPECT(read_block(image, a, 5, CELLS, CELLS, &o).count == 3);
+    EXPECT(read_point_refuses(image, none, 0, TSM_NO_SUCH_KEY));
+    EXPECT(read_point_refuses(image, a, 21, TSM_NO_ENTRY));
+    EXPECT(read_point_refuses(image, a, 5, TSM_NO_POINT));
 
     /* inputs may overlap: the key is the one in the index */
-    o = untouched();
-    EXPECT(tsm_find(image.bytes, image.len, image.bytes + 27, 1, 20, &o.kind, &o.min, &o.max, &o.offset, &o.size) == TSM_OK);
-    EXPECT(o.kind == TSM_BOOLEAN && o.min == 0 && o.max == 20 && o.offset == 5 && o.size == 20 && entry_alone(&o));
+    struct tsm_found found = tsm_find(image.bytes, image.len, image.bytes + 27, 1, 20);
+    EXPECT(found.answer.number == TSM_OK && is_entry(found.entry, TSM_BOOLEAN, 20, 0, 20, 5));
 }
 
 /* A roll and its image: each is written as the other, in a buffer of just its length and in a longer one. */
 static void written_as(const char *what, Bytes roll, Bytes image)
 {
-    Outs o;
     about = what;
-    EXPECT(write_roll(roll, image.len, &o) == TSM_OK && wrote(o, image));
-    EXPECT(write_roll(roll, BYTES, &o) == TSM_OK && wrote(o, image));
-    EXPECT(write_roll(roll, image.len - 1, &o) == TSM_SHORT_BUFFER && kept(&o));
-    EXPECT(unroll(image, roll.len, &o) == TSM_OK && wrote(o, roll));
-    EXPECT(unroll(image, BYTES, &o) == TSM_OK && wrote(o, roll));
-    EXPECT(roll.len == 0 || (unroll(image, roll.len - 1, &o) == TSM_SHORT_BUFFER && kept(&o)));
+    EXPECT(writes(roll, image.len, image));
+    EXPECT(writes(roll, BYTES, image));
+    EXPECT(write_refuses(roll, image.len - 1, TSM_SHORT_BUFFER));
+    EXPECT(unrolls(image, roll.len, roll));
+    EXPECT(unrolls(image, BYTES, roll));
+    EXPECT(roll.len == 0 || unroll_refuses(image, roll.len - 1, TSM_SHORT_BUFFER));
 }
 
 static void rolls(void)
 {
-    Outs o;
     Bytes bare = hex("16 D1 16 D1 01 00 00 00 00 00 00 00 05"), none = {.len = 0};
     written_as("the empty roll", none, bare);
     written_as("true, false, false", hex("01 61 02 03 00 01 0A 00 0A 00"), sample());
@@ -447,36 +497,35 @@ static void rolls(void)
                image_of(TSM_INTEGER, "1C FF FF FF FF FF FF FF FB", "10 00 00 00 00 00 00 00 0E", -5, -5));
 
     about = "bad rolls";
-    EXPECT(write_roll(hex("00"), BYTES, &o) == TSM_BAD_ROLL && kept(&o));
-    EXPECT(write_roll(hex("01 61 03 01 00 00"), BYTES, &o) == TSM_BAD_ROLL && kept(&o));
-    EXPECT(write_roll(hex("01 61 02 02 00 01 00 01"), BYTES, &o) == TSM_BAD_ROLL && kept(&o));
-    EXPECT(write_roll(hex("01 61 02 01 80 00 01"), BYTES, &o) == TSM_BAD_ROLL && kept(&o));
-    EXPECT(write_roll(hex("01 61 02 01 00 02"), 0, &o) == TSM_BAD_ROLL && kept(&o));
-    EXPECT(write_roll(hex("01 61 02 01 00 01 00"), BYTES, &o) == TSM_BAD_ROLL && kept(&o));
+    EXPECT(write_refuses(hex("00"), BYTES, TSM_BAD_ROLL));
+    EXPECT(write_refuses(hex("01 61 03 01 00 00"), BYTES, TSM_BAD_ROLL));
+    EXPECT(write_refuses(hex("01 61 02 02 00 01 00 01"), BYTES, TSM_BAD_ROLL));
+    EXPECT(write_refuses(hex("01 61 02 01 80 00 01"), BYTES, TSM_BAD_ROLL));
+    EXPECT(write_refuses(hex("01 61 02 01 00 02"), 0, TSM_BAD_ROLL));
+    EXPECT(write_refuses(hex("01 61 02 01 00 01 00"), BYTES, TSM_BAD_ROLL));
 
     about = "unroll refuses what check refuses";
-    EXPECT(unroll(none, BYTES, &o) == TSM_IMAGE_LENGTH && kept(&o));
-    EXPECT(unroll(changed(24, 0xC0), BYTES, &o) == TSM_CHECKSUM && kept(&o));
-    EXPECT(unroll(changed(46, 30), 0, &o) == TSM_TIMES_DIFFER && kept(&o));
+    EXPECT(unroll_refuses(none, BYTES, TSM_IMAGE_LENGTH));
+    EXPECT(unroll_refuses(changed(24, 0xC0), BYTES, TSM_CHECKSUM));
+    EXPECT(unroll_refuses(changed(46, 30), 0, TSM_TIMES_DIFFER));
 }
 
 static void merges(void)
 {
-    Outs o;
     Bytes bare = hex("16 D1 16 D1 01 00 00 00 00 00 00 00 05"), none = {.len = 0};
     Bytes both = image_of(TSM_BOOLEAN, "21 00 00 00 00 00 00 00 00 01 04", "10 04 D0", 0, 30);
     Bytes newer = image_of(TSM_BOOLEAN, "21 00 00 00 00 00 00 00 0A 02 02", "10 02 C0", 10, 30);
     Bytes integers = image_of(TSM_INTEGER, "1C FF FF FF FF FF FF FF FB", "10 00 00 00 00 00 00 00 0E", -5, -5);
     about = "merge";
-    EXPECT(merge(bare, bare, BYTES, &o) == TSM_OK && wrote(o, bare));
-    EXPECT(merge(sample(), bare, BYTES, &o) == TSM_OK && wrote(o, sample()));
-    EXPECT(merge(bare, sample(), sample().len, &o) == TSM_OK && wrote(o, sample()));
-    EXPECT(merge(sample(), sample(), BYTES, &o) == TSM_OK && wrote(o, sample()));
-    EXPECT(merge(sample(), newer, BYTES, &o) == TSM_OK && wrote(o, both));
-    EXPECT(merge(sample(), newer, both.len - 1, &o) == TSM_SHORT_BUFFER && kept(&o));
-    EXPECT(merge(sample(), integers, BYTES, &o) == TSM_KIND_CLASH && kept(&o));
-    EXPECT(merge(none, changed(24, 0xC0), BYTES, &o) == TSM_IMAGE_LENGTH && kept(&o));
-    EXPECT(merge(sample(), changed(24, 0xC0), 0, &o) == TSM_CHECKSUM && kept(&o));
+    EXPECT(merges_to(bare, bare, BYTES, bare));
+    EXPECT(merges_to(sample(), bare, BYTES, sample()));
+    EXPECT(merges_to(bare, sample(), sample().len, sample()));
+    EXPECT(merges_to(sample(), sample(), BYTES, sample()));
+    EXPECT(merges_to(sample(), newer, BYTES, both));
+    EXPECT(merge_refuses(sample(), newer, both.len - 1, TSM_SHORT_BUFFER));
+    EXPECT(merge_refuses(sample(), integers, BYTES, TSM_KIND_CLASH));
+    EXPECT(merge_refuses(none, changed(24, 0xC0), BYTES, TSM_IMAGE_LENGTH));
+    EXPECT(merge_refuses(sample(), changed(24, 0xC0), 0, TSM_CHECKSUM));
 }
 
 int main(void)

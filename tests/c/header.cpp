@@ -1,13 +1,12 @@
-// The header serves C++, and its functions link.
-#include <tsm.h>
+// The header serves C++, its structs have the same layout there, and its functions link.
+#include "layout.h"
 
 #include <cstdio>
 
 int main()
 {
     const uint8_t bare[TSM_IMAGE_LEAST] = {0x16, 0xD1, 0x16, 0xD1, 1, 0, 0, 0, 0, 0, 0, 0, 5};
-    uint64_t keys = 1, points = 1;
-    const uint8_t answer = tsm_check(bare, sizeof bare, &keys, &points);
-    std::printf("%d %d %d\n", int(answer), int(keys), int(points));
-    return answer != TSM_OK || keys != 0 || points != 0;
+    const tsm_checked checked = tsm_check(bare, sizeof bare);
+    std::printf("%d %d %d\n", int(checked.answer.number), int(checked.keys), int(checked.points));
+    return checked.answer.number != TSM_OK || checked.keys != 0 || checked.points != 0;
 }

@@ -25,7 +25,6 @@ pub mod sys;
 mod walk;
 
 pub use error::Error;
-use sys::{BlockOut, EntryOut};
 pub use walk::{Index, Key, Points, Series};
 
 /// The Rust examples of README.md, which are run with those of this crate.
@@ -150,9 +149,12 @@ pub struct PointRead {
 /// # Ok::<(), Box<dyn std::error::Error>>(())
 /// ```
 pub fn check(image: &[u8]) -> Result<Totals, Error> {
-    let (mut keys, mut points) = (0, 0);
-    answer(sys::check(image, &mut keys, &mut points))?;
-    Ok(Totals { keys, points })
+    let checked = sys::check(image);
+    accepted(checked.answer)?;
+    Ok(Totals {
+        keys: checked.keys,
+        points: checked.points,
+    })
 }
 
 /// Finds the index entry whose block covers a time of a key. The whole index is checked; no block is read.
@@ -169,7 +171,9 @@ pub fn check(image: &[u8]) -> Result<Totals, Error> {
 /// # Ok::<(), Box<dyn std::error::Error>>(())
 /// ```
 pub fn find(image: &[u8], key: &[u8], time: i64) -> Result<Entry, Error> {
-    entry_of(|entry| sys::find(image, key, time, entry))
+    let found = sys::find(image, key, time);
+    accepted(found.answer)?;
+    Ok(entry_of(found.entry))
 }
 
 /// Reads the block that covers a time of a key.
@@ -218,17 +222,9 @@ pub fn read_block_into(
     times: &mut [i64],
     values: &mut [i64],
 ) -> Result<(Entry, usize), Error> {
-    let mut count = 0;
-    let entry = entry_of(|entry| {
-        let out = BlockOut {
-            times,
-            values,
-            entry,
-            count: &mut count,
-        };
-        sys::read_block(image, key, time, out)
-    })?;
-    Ok((entry, count))
+    let block = sys::read_block(image, key, time, times, values);
+    accepted(block.answer)?;
+    Ok((entry_of(block.entry), block.count))
 }
 
 /// Reads the value of a key at exactly a time.
@@ -244,9 +240,12 @@ pub fn read_block_into(
 /// # Ok::<(), Box<dyn std::error::Error>>(())
 /// ```
 pub fn read_point(image: &[u8], key: &[u8], time: i64) -> Result<PointRead, Error> {
-    let mut value = 0;
-    let entry = entry_of(|entry| sys::read_point(image, key, time, entry, &mut value))?;
-    Ok(PointRead { entry, value })
+    let point = sys::read_point(image, key, time);
+    accepted(point.answer)?;
+    Ok(PointRead {
+        entry: entry_of(point.entry),
+        value: point.value,
+    })
 }
 
 /// Writes a roll as an image.
@@ -271,7 +270,7 @@ pub fn write(roll: &[u8]) -> Result<Vec<u8>, Error> {
 ///
 /// Those of [`write`], then [`Error::ShortBuffer`]. A slice of [`IMAGE_MOST`] bytes is always long enough.
 pub fn write_into(roll: &[u8], out: &mut [u8]) -> Result<usize, Error> {
-    length_of(|written| sys::write(roll, out, written))
+    length_of(sys::write(roll, out))
 }
 
 /// Writes an image as a roll, after its full check.
@@ -296,7 +295,7 @@ pub fn unroll(image: &[u8]) -> Result<Vec<u8>, Error> {
 ///
 /// Those of [`check`], then [`Error::ShortBuffer`].
 pub fn unroll_into(image: &[u8], out: &mut [u8]) -> Result<usize, Error> {
-    length_of(|written| sys::unroll(image, out, written))
+    length_of(sys::unroll(image, out))
 }
 
 /// Merges an older and a newer image: the image of their points, and where both have a point of one key and time, the
@@ -324,41 +323,34 @@ pub fn merge(older: &[u8], newer: &[u8]) -> Result<Vec<u8>, Error> {
 ///
 /// Those of [`merge`], then [`Error::ShortBuffer`]. A slice of [`IMAGE_MOST`] bytes is always long enough.
 pub fn merge_into(older: &[u8], newer: &[u8], out: &mut [u8]) -> Result<usize, Error> {
-    length_of(|written| sys::merge(older, newer, out, written))
+    length_of(sys::merge(older, newer, out))
 }
 
-/// 0 is a success; any other number is that of an error.
-fn answer(number: u8) -> Result<(), Error> {
-    match number {
+/// An answer's number is 0 for a success, or that of an error.
+fn accepted(answer: sys::Answer) -> Result<(), Error> {
+    match answer.number {
         0 => Ok(()),
-        _ => Err(Error::from_number(number).expect("the library gives the number of an error")),
+        number => {
+            Err(Error::from_number(number).expect("the library gives the number of an error"))
+        }
     }
 }
 
 /// The entry that an act gives.
-fn entry_of(act: impl FnOnce(EntryOut) -> u8) -> Result<Entry, Error> {
-    let (mut kind, mut min, mut max, mut offset, mut size) = (0, 0, 0, 0, 0);
-    answer(act(EntryOut {
-        kind: &mut kind,
-        min: &mut min,
-        max: &mut max,
-        offset: &mut offset,
-        size: &mut size,
-    }))?;
-    Ok(Entry {
-        kind: Kind::from_byte(kind).expect("the library gives a kind that it carries"),
-        min,
-        max,
-        offset,
-        size,
-    })
+fn entry_of(entry: sys::Entry) -> Entry {
+    Entry {
+        kind: Kind::from_byte(entry.kind).expect("the library gives a kind that it carries"),
+        min: entry.min,
+        max: entry.max,
+        offset: entry.offset,
+        size: entry.size,
+    }
 }
 
 /// The number of bytes that an act writes.
-fn length_of(act: impl FnOnce(&mut usize) -> u8) -> Result<usize, Error> {
-    let mut written = 0;
-    answer(act(&mut written))?;
-    Ok(written)
+fn length_of(written: sys::Written) -> Result<usize, Error> {
+    accepted(written.answer)?;
+    Ok(written.bytes)
 }
 
 /// What an act writes, in a buffer that is doubled until it is long enough.
@@ -399,6 +391,22 @@ mod tests {
             has(format!("{} = {}", constant(error.name()), error.number()));
             has(format!(" /* {} */", error.sentence()));
         }
+    }
+
+    /// The layout that the C tests assert of the header's structs is that of `sys`, field by field.
+    #[test]
+    fn layout_is_that_of_the_header() {
+        let mut lines = Vec::new();
+        for (name, size, fields) in sys::LAYOUT {
+            let name = name.to_lowercase();
+            lines.push(format!("SIZE(tsm_{name}, {size});"));
+            for (field, offset) in *fields {
+                lines.push(format!("AT(tsm_{name}, {field}, {offset});"));
+            }
+        }
+        let asserted = include_str!("../../../tests/c/layout.h").lines();
+        let asserted = asserted.filter(|line| line.ends_with(");"));
+        assert_eq!(asserted.collect::<Vec<_>>(), lines);
     }
 
     /// The name of a constant of the C header: TSM_NO_POINT of NoPoint.

@@ -1,2 +1,2 @@
 -- What the C interface answers.
-pub mod Outs
+pub mod Answers

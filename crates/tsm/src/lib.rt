@@ -1,86 +1,148 @@
 // The C interface of the acts. Floor 8: it stands on all of them.
-// Each function returns 0, or the number of a refusal; out parameters are written only on success.
+// Each function answers a struct by value. On a refusal every field but those of its `answer` is 0.
 use format::BlockRead;
 use format::Checked;
 use format::Entry;
 use format::Found;
 use format::PointRead;
+use format::Refusal;
 use format::Written;
 ghost use mathlib.Core.Path.{_≡_};
+ghost use Rattle.format.specs.Refusals.{refusalNumber};
 ghost use Rattle.format.specs.Acts.{checkAnswer, findAnswer, readBlockAnswer, readBlockTimes, readBlockValues, readPointAnswer, writtenSays, writeAnswer, writeBuffer, unrollAnswer, unrollBuffer, mergeAnswer, mergeBuffer};
-ghost use Rattle.tsm.specs.Outs.{numberOf, after, kindOf, minOf, maxOf, offsetOf, sizeOf};
+ghost use Rattle.tsm.specs.Answers.{acceptedAnswer, refusedAnswer, entryOf, noEntry, checkedOf, foundOf, blockOf, pointOf, writtenOf};
 
-// Checks an image in full, and counts its keys and points.
-#[no_mangle]
-pub extern "C" fn tsm_check(image: &[u8], keys: &mut u64, points: &mut u64) -> u8
-    ensures answer { λ r. ⌜ r ≡ numberOf (checkAnswer (now (image .entry))) ⌝ }
-    ensures keys { λ r. ⌜ now (keys .exit) ≡ after (λ t. t .0) (checkAnswer (now (image .entry))) (now (keys .entry)) ⌝ }
-    ensures points { λ r. ⌜ now (points .exit) ≡ after (λ t. t .1) (checkAnswer (now (image .entry))) (now (points .entry)) ⌝ }
+// Whether an act refuses, and why.
+#[repr(C)]
+pub struct TsmAnswer {
+    pub number: u8,
+}
+
+// An index entry.
+#[repr(C)]
+pub struct TsmEntry {
+    pub kind: u8,
+    pub size: u32,
+    pub min: i64,
+    pub max: i64,
+    pub offset: u64,
+}
+
+// The answer of check.
+#[repr(C)]
+pub struct TsmChecked {
+    pub answer: TsmAnswer,
+    pub keys: u64,
+    pub points: u64,
+}
+
+// The answer of find.
+#[repr(C)]
+pub struct TsmFound {
+    pub answer: TsmAnswer,
+    pub entry: TsmEntry,
+}
+
+// The answer of read block.
+#[repr(C)]
+pub struct TsmBlock {
+    pub answer: TsmAnswer,
+    pub entry: TsmEntry,
+    pub count: usize,
+}
+
+// The answer of read point.
+#[repr(C)]
+pub struct TsmPoint {
+    pub answer: TsmAnswer,
+    pub entry: TsmEntry,
+    pub value: i64,
+}
+
+// The answer of write, unroll and merge.
+#[repr(C)]
+pub struct TsmWritten {
+    pub answer: TsmAnswer,
+    pub bytes: usize,
+}
+
+// Nothing is refused.
+fn accepted() -> TsmAnswer
+    ensures { λ r. ⌜ r ≡ acceptedAnswer ⌝ }
 {
-    match reader::check(image) {
-        Checked::Totals {
-            keys: key_total,
-            points: point_total,
-        } => {
-            *keys = key_total as u64;
-            *points = point_total as u64;
-            0
-        }
-        Checked::Refused(refusal) => refusal.number(),
+    TsmAnswer { number: 0 }
+}
+
+// What is refused.
+fn refused(refusal: Refusal) -> TsmAnswer
+    ensures { λ r. ⌜ r ≡ refusedAnswer (refusalNumber refusal) ⌝ }
+{
+    TsmAnswer {
+        number: refusal.number(),
     }
 }
 
-// Writes the parts of an entry.
-fn put_entry(
-    entry: Entry,
-    kind: &mut u8,
-    min: &mut i64,
-    max: &mut i64,
-    offset: &mut u64,
-    size: &mut u32,
-)
-    ensures kind { λ r. ⌜ now (kind .exit) ≡ kindOf entry ⌝ }
-    ensures min { λ r. ⌜ now (min .exit) ≡ minOf entry ⌝ }
-    ensures max { λ r. ⌜ now (max .exit) ≡ maxOf entry ⌝ }
-    ensures offset { λ r. ⌜ now (offset .exit) ≡ offsetOf entry ⌝ }
-    ensures size { λ r. ⌜ now (size .exit) ≡ sizeOf entry ⌝ }
+// The parts of an entry.
+fn given_entry(entry: Entry) -> TsmEntry
+    ensures { λ r. ⌜ r ≡ entryOf entry ⌝ }
 {
-    let entry_kind = entry.kind;
-    let entry_min = entry.min;
-    let entry_max = entry.max;
+    let kind = entry.kind;
     let place = entry.offset;
-    *kind = entry_kind.byte();
-    *min = entry_min;
-    *max = entry_max;
-    *offset = place.0 as u64;
-    *size = entry.size;
+    TsmEntry {
+        kind: kind.byte(),
+        size: entry.size,
+        min: entry.min,
+        max: entry.max,
+        offset: place.0 as u64,
+    }
+}
+
+// The entry of a refusal.
+fn no_entry() -> TsmEntry
+    ensures { λ r. ⌜ r ≡ noEntry ⌝ }
+{
+    TsmEntry {
+        kind: 0,
+        size: 0,
+        min: 0,
+        max: 0,
+        offset: 0,
+    }
+}
+
+// Checks an image in full, and counts its keys and points.
+#[no_mangle]
+pub extern "C" fn tsm_check(image: &[u8]) -> TsmChecked
+    ensures { λ r. ⌜ r ≡ checkedOf (checkAnswer (now (image .entry))) ⌝ }
+{
+    match reader::check(image) {
+        Checked::Totals { keys, points } => TsmChecked {
+            answer: accepted(),
+            keys: keys as u64,
+            points: points as u64,
+        },
+        Checked::Refused(refusal) => TsmChecked {
+            answer: refused(refusal),
+            keys: 0,
+            points: 0,
+        },
+    }
 }
 
 // Finds the index entry for a key and a time.
 #[no_mangle]
-pub extern "C" fn tsm_find(
-    image: &[u8],
-    key: &[u8],
-    time: i64,
-    kind: &mut u8,
-    min: &mut i64,
-    max: &mut i64,
-    offset: &mut u64,
-    size: &mut u32,
-) -> u8
-    ensures answer { λ r. ⌜ r ≡ numberOf (findAnswer (now (image .entry)) (now (key .entry)) time) ⌝ }
-    ensures kind { λ r. ⌜ now (kind .exit) ≡ after kindOf (findAnswer (now (image .entry)) (now (key .entry)) time) (now (kind .entry)) ⌝ }
-    ensures min { λ r. ⌜ now (min .exit) ≡ after minOf (findAnswer (now (image .entry)) (now (key .entry)) time) (now (min .entry)) ⌝ }
-    ensures max { λ r. ⌜ now (max .exit) ≡ after maxOf (findAnswer (now (image .entry)) (now (key .entry)) time) (now (max .entry)) ⌝ }
-    ensures offset { λ r. ⌜ now (offset .exit) ≡ after offsetOf (findAnswer (now (image .entry)) (now (key .entry)) time) (now (offset .entry)) ⌝ }
-    ensures size { λ r. ⌜ now (size .exit) ≡ after sizeOf (findAnswer (now (image .entry)) (now (key .entry)) time) (now (size .entry)) ⌝ }
+pub extern "C" fn tsm_find(image: &[u8], key: &[u8], time: i64) -> TsmFound
+    ensures { λ r. ⌜ r ≡ foundOf (findAnswer (now (image .entry)) (now (key .entry)) time) ⌝ }
 {
     match finder::find(image, key, time) {
-        Found::At(entry) => {
-            put_entry(entry, kind, min, max, offset, size);
-            0
-        }
-        Found::Refused(refusal) => refusal.number(),
+        Found::At(entry) => TsmFound {
+            answer: accepted(),
+            entry: given_entry(entry),
+        },
+        Found::Refused(refusal) => TsmFound {
+            answer: refused(refusal),
+            entry: no_entry(),
+        },
     }
 }
 
@@ -92,107 +154,86 @@ pub extern "C" fn tsm_read_block(
     time: i64,
     times: &mut [i64],
     values: &mut [i64],
-    kind: &mut u8,
-    min: &mut i64,
-    max: &mut i64,
-    offset: &mut u64,
-    size: &mut u32,
-    count: &mut usize,
-) -> u8
-    ensures answer { λ r. ⌜ r ≡ numberOf (readBlockAnswer (now (image .entry)) (now (key .entry)) time (now (times .entry)) (now (values .entry))) ⌝ }
+) -> TsmBlock
+    ensures answer { λ r. ⌜ r ≡ blockOf (readBlockAnswer (now (image .entry)) (now (key .entry)) time (now (times .entry)) (now (values .entry))) ⌝ }
     ensures times { λ r. ⌜ now (times .exit) ≡ readBlockTimes (now (image .entry)) (now (key .entry)) time (now (times .entry)) (now (values .entry)) ⌝ }
     ensures values { λ r. ⌜ now (values .exit) ≡ readBlockValues (now (image .entry)) (now (key .entry)) time (now (times .entry)) (now (values .entry)) ⌝ }
-    ensures count { λ r. ⌜ now (count .exit) ≡ after (λ b. b .1) (readBlockAnswer (now (image .entry)) (now (key .entry)) time (now (times .entry)) (now (values .entry))) (now (count .entry)) ⌝ }
-    ensures kind { λ r. ⌜ now (kind .exit) ≡ after (λ b. kindOf (b .0)) (readBlockAnswer (now (image .entry)) (now (key .entry)) time (now (times .entry)) (now (values .entry))) (now (kind .entry)) ⌝ }
-    ensures min { λ r. ⌜ now (min .exit) ≡ after (λ b. minOf (b .0)) (readBlockAnswer (now (image .entry)) (now (key .entry)) time (now (times .entry)) (now (values .entry))) (now (min .entry)) ⌝ }
-    ensures max { λ r. ⌜ now (max .exit) ≡ after (λ b. maxOf (b .0)) (readBlockAnswer (now (image .entry)) (now (key .entry)) time (now (times .entry)) (now (values .entry))) (now (max .entry)) ⌝ }
-    ensures offset { λ r. ⌜ now (offset .exit) ≡ after (λ b. offsetOf (b .0)) (readBlockAnswer (now (image .entry)) (now (key .entry)) time (now (times .entry)) (now (values .entry))) (now (offset .entry)) ⌝ }
-    ensures size { λ r. ⌜ now (size .exit) ≡ after (λ b. sizeOf (b .0)) (readBlockAnswer (now (image .entry)) (now (key .entry)) time (now (times .entry)) (now (values .entry))) (now (size .entry)) ⌝ }
 {
     match reader::read_block(image, key, time, times, values) {
-        BlockRead::Points(entry, n) => {
-            put_entry(entry, kind, min, max, offset, size);
-            *count = n;
-            0
-        }
-        BlockRead::Refused(refusal) => refusal.number(),
+        BlockRead::Points(entry, count) => TsmBlock {
+            answer: accepted(),
+            entry: given_entry(entry),
+            count: count,
+        },
+        BlockRead::Refused(refusal) => TsmBlock {
+            answer: refused(refusal),
+            entry: no_entry(),
+            count: 0,
+        },
     }
 }
 
 // Reads the value at a key and an exact time.
 #[no_mangle]
-pub extern "C" fn tsm_read_point(
-    image: &[u8],
-    key: &[u8],
-    time: i64,
-    kind: &mut u8,
-    min: &mut i64,
-    max: &mut i64,
-    offset: &mut u64,
-    size: &mut u32,
-    value: &mut i64,
-) -> u8
-    ensures answer { λ r. ⌜ r ≡ numberOf (readPointAnswer (now (image .entry)) (now (key .entry)) time) ⌝ }
-    ensures value { λ r. ⌜ now (value .exit) ≡ after (λ p. p .1) (readPointAnswer (now (image .entry)) (now (key .entry)) time) (now (value .entry)) ⌝ }
-    ensures kind { λ r. ⌜ now (kind .exit) ≡ after (λ p. kindOf (p .0)) (readPointAnswer (now (image .entry)) (now (key .entry)) time) (now (kind .entry)) ⌝ }
-    ensures min { λ r. ⌜ now (min .exit) ≡ after (λ p. minOf (p .0)) (readPointAnswer (now (image .entry)) (now (key .entry)) time) (now (min .entry)) ⌝ }
-    ensures max { λ r. ⌜ now (max .exit) ≡ after (λ p. maxOf (p .0)) (readPointAnswer (now (image .entry)) (now (key .entry)) time) (now (max .entry)) ⌝ }
-    ensures offset { λ r. ⌜ now (offset .exit) ≡ after (λ p. offsetOf (p .0)) (readPointAnswer (now (image .entry)) (now (key .entry)) time) (now (offset .entry)) ⌝ }
-    ensures size { λ r. ⌜ now (size .exit) ≡ after (λ p. sizeOf (p .0)) (readPointAnswer (now (image .entry)) (now (key .entry)) time) (now (size .entry)) ⌝ }
+pub extern "C" fn tsm_read_point(image: &[u8], key: &[u8], time: i64) -> TsmPoint
+    ensures { λ r. ⌜ r ≡ pointOf (readPointAnswer (now (image .entry)) (now (key .entry)) time) ⌝ }
 {
     match reader::read_point(image, key, time) {
-        PointRead::Value(entry, v) => {
-            put_entry(entry, kind, min, max, offset, size);
-            *value = v;
-            0
-        }
-        PointRead::Refused(refusal) => refusal.number(),
+        PointRead::Value(entry, value) => TsmPoint {
+            answer: accepted(),
+            entry: given_entry(entry),
+            value: value,
+        },
+        PointRead::Refused(refusal) => TsmPoint {
+            answer: refused(refusal),
+            entry: no_entry(),
+            value: 0,
+        },
     }
 }
 
-// Answers for an act that writes: the number of bytes goes to `written`.
-fn answer_written(answer: Written, written: &mut usize) -> u8
-    ensures answer { λ r. ⌜ r ≡ numberOf (writtenSays answer) ⌝ }
-    ensures written { λ r. ⌜ now (written .exit) ≡ after (λ n. n) (writtenSays answer) (now (written .entry)) ⌝ }
+// What an act that writes answers.
+fn given_written(written: Written) -> TsmWritten
+    ensures { λ r. ⌜ r ≡ writtenOf (writtenSays written) ⌝ }
 {
-    match answer {
-        Written::Bytes(n) => {
-            *written = n;
-            0
-        }
-        Written::Refused(refusal) => refusal.number(),
+    match written {
+        Written::Bytes(bytes) => TsmWritten {
+            answer: accepted(),
+            bytes: bytes,
+        },
+        Written::Refused(refusal) => TsmWritten {
+            answer: refused(refusal),
+            bytes: 0,
+        },
     }
 }
 
 // Writes a roll as an image.
 #[no_mangle]
-pub extern "C" fn tsm_write(roll: &[u8], out: &mut [u8], written: &mut usize) -> u8
-    ensures answer { λ r. ⌜ r ≡ numberOf (writeAnswer (now (roll .entry)) (now (out .entry))) ⌝ }
+pub extern "C" fn tsm_write(roll: &[u8], out: &mut [u8]) -> TsmWritten
+    ensures answer { λ r. ⌜ r ≡ writtenOf (writeAnswer (now (roll .entry)) (now (out .entry))) ⌝ }
     ensures out { λ r. ⌜ now (out .exit) ≡ writeBuffer (now (roll .entry)) (now (out .entry)) ⌝ }
-    ensures written { λ r. ⌜ now (written .exit) ≡ after (λ n. n) (writeAnswer (now (roll .entry)) (now (out .entry))) (now (written .entry)) ⌝ }
 {
-    let answer = writer::write(roll, out);
-    answer_written(answer, written)
+    let written = writer::write(roll, out);
+    given_written(written)
 }
 
 // Writes an image as a roll.
 #[no_mangle]
-pub extern "C" fn tsm_unroll(image: &[u8], out: &mut [u8], written: &mut usize) -> u8
-    ensures answer { λ r. ⌜ r ≡ numberOf (unrollAnswer (now (image .entry)) (now (out .entry))) ⌝ }
+pub extern "C" fn tsm_unroll(image: &[u8], out: &mut [u8]) -> TsmWritten
+    ensures answer { λ r. ⌜ r ≡ writtenOf (unrollAnswer (now (image .entry)) (now (out .entry))) ⌝ }
     ensures out { λ r. ⌜ now (out .exit) ≡ unrollBuffer (now (image .entry)) (now (out .entry)) ⌝ }
-    ensures written { λ r. ⌜ now (written .exit) ≡ after (λ n. n) (unrollAnswer (now (image .entry)) (now (out .entry))) (now (written .entry)) ⌝ }
 {
-    let answer = unroller::unroll(image, out);
-    answer_written(answer, written)
+    let written = unroller::unroll(image, out);
+    given_written(written)
 }
 
 // Merges an older and a newer image into a third.
 #[no_mangle]
-pub extern "C" fn tsm_merge(older: &[u8], newer: &[u8], out: &mut [u8], written: &mut usize) -> u8
-    ensures answer { λ r. ⌜ r ≡ numberOf (mergeAnswer (now (older .entry)) (now (newer .entry)) (now (out .entry))) ⌝ }
+pub extern "C" fn tsm_merge(older: &[u8], newer: &[u8], out: &mut [u8]) -> TsmWritten
+    ensures answer { λ r. ⌜ r ≡ writtenOf (mergeAnswer (now (older .entry)) (now (newer .entry)) (now (out .entry))) ⌝ }
     ensures out { λ r. ⌜ now (out .exit) ≡ mergeBuffer (now (older .entry)) (now (newer .entry)) (now (out .entry)) ⌝ }
-    ensures written { λ r. ⌜ now (written .exit) ≡ after (λ n. n) (mergeAnswer (now (older .entry)) (now (newer .entry)) (now (out .entry))) (now (written .entry)) ⌝ }
 {
-    let answer = merge::merge(older, newer, out);
-    answer_written(answer, written)
+    let written = merge::merge(older, newer, out);
+    given_written(written)
 }

@@ -84,7 +84,7 @@ impl fmt::Display for Query<'_> {
 }
 
 /// An index entry.
-#[derive(Clone, Copy, Debug, PartialEq, Eq)]
+#[derive(Clone, Copy, Debug, Default, PartialEq, Eq)]
 pub struct Entry {
     pub kind: u8,
     pub min: i64,

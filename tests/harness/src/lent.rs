@@ -17,24 +17,6 @@ impl Cell for u8 {
     }
 }
 
-impl Cell for u32 {
-    fn pattern(index: usize) -> u32 {
-        (mixed(index) >> 32) as u32
-    }
-}
-
-impl Cell for u64 {
-    fn pattern(index: usize) -> u64 {
-        mixed(index)
-    }
-}
-
-impl Cell for usize {
-    fn pattern(index: usize) -> usize {
-        mixed(index) as usize
-    }
-}
-
 impl Cell for i64 {
     fn pattern(index: usize) -> i64 {
         mixed(index) as i64
@@ -105,39 +87,5 @@ impl<T: Cell> Lent<T> for PaddedCells<T> {
         let (before, rest) = self.cells.split_at(MARGIN);
         let (_, after) = rest.split_at(rest.len() - MARGIN);
         holds_pattern(before, 0) && holds_pattern(after, 0)
-    }
-}
-
-/// An out parameter with canaries on both sides.
-pub struct Out<T> {
-    cells: [T; 2 * MARGIN + 1],
-}
-
-impl<T: Cell> Default for Out<T> {
-    fn default() -> Self {
-        let mut cells = [T::pattern(0); 2 * MARGIN + 1];
-        fill(&mut cells);
-        Out { cells }
-    }
-}
-
-impl<T: Cell> Out<T> {
-    /// The cell that is lent.
-    pub fn cell(&mut self) -> &mut T {
-        &mut self.cells[MARGIN]
-    }
-
-    pub fn value(&self) -> T {
-        self.cells[MARGIN]
-    }
-
-    pub fn canaries_live(&self) -> bool {
-        let after = MARGIN + 1;
-        holds_pattern(&self.cells[..MARGIN], 0) && holds_pattern(&self.cells[after..], after)
-    }
-
-    /// Whether the cell itself is as it was, too.
-    pub fn is_untouched(&self) -> bool {
-        holds_pattern(&self.cells, 0)
     }
 }

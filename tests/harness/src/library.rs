@@ -3,67 +3,86 @@
 
 use tsm::sys;
 
-use crate::acts::{Acts, BlockOut, EntryOut, Query};
+use crate::acts::{Acts, Block, Point, Query, Reply, Totals};
+use crate::call::Entry;
 use crate::lent::{Cell, Lent, Memory};
 
 /// The library.
 pub struct Library;
 
 impl Acts for Library {
-    fn check(&self, image: &[u8], keys: &mut u64, points: &mut u64) -> u8 {
-        sys::check(image, keys, points)
+    fn check(&self, image: &[u8]) -> Reply<Totals> {
+        let sys::Checked {
+            answer,
+            keys,
+            points,
+        } = sys::check(image);
+        reply(answer, Totals { keys, points })
     }
 
-    fn find(&self, query: Query, entry: EntryOut) -> u8 {
+    fn find(&self, query: Query) -> Reply<Entry> {
+        let sys::Found { answer, entry } = sys::find(query.image, query.key, query.time);
+        reply(answer, entry_of(entry))
+    }
+
+    fn read_block(&self, query: Query, times: &mut [i64], values: &mut [i64]) -> Reply<Block> {
         let Query { image, key, time } = query;
-        sys::find(image, key, time, entry.into())
+        let sys::Block {
+            answer,
+            entry,
+            count,
+        } = sys::read_block(image, key, time, times, values);
+        let entry = entry_of(entry);
+        reply(answer, Block { entry, count })
     }
 
-    fn read_block(&self, query: Query, out: BlockOut) -> u8 {
-        let Query { image, key, time } = query;
-        let out = sys::BlockOut {
-            times: out.times,
-            values: out.values,
-            entry: out.entry.into(),
-            count: out.count,
-        };
-        sys::read_block(image, key, time, out)
+    fn read_point(&self, query: Query) -> Reply<Point> {
+        let sys::Point {
+            answer,
+            entry,
+            value,
+        } = sys::read_point(query.image, query.key, query.time);
+        let entry = entry_of(entry);
+        reply(answer, Point { entry, value })
     }
 
-    fn read_point(&self, query: Query, entry: EntryOut, value: &mut i64) -> u8 {
-        let Query { image, key, time } = query;
-        sys::read_point(image, key, time, entry.into(), value)
+    fn write(&self, roll: &[u8], out: &mut [u8]) -> Reply<usize> {
+        written(sys::write(roll, out))
     }
 
-    fn write(&self, roll: &[u8], out: &mut [u8], written: &mut usize) -> u8 {
-        sys::write(roll, out, written)
+    fn unroll(&self, image: &[u8], out: &mut [u8]) -> Reply<usize> {
+        written(sys::unroll(image, out))
     }
 
-    fn unroll(&self, image: &[u8], out: &mut [u8], written: &mut usize) -> u8 {
-        sys::unroll(image, out, written)
-    }
-
-    fn merge(&self, older: &[u8], newer: &[u8], out: &mut [u8], written: &mut usize) -> u8 {
-        sys::merge(older, newer, out, written)
+    fn merge(&self, older: &[u8], newer: &[u8], out: &mut [u8]) -> Reply<usize> {
+        written(sys::merge(older, newer, out))
     }
 }
 
-impl<'a> From<EntryOut<'a>> for sys::EntryOut<'a> {
-    fn from(entry: EntryOut<'a>) -> sys::EntryOut<'a> {
-        let EntryOut {
-            kind,
-            min,
-            max,
-            offset,
-            size,
-        } = entry;
-        sys::EntryOut {
-            kind,
-            min,
-            max,
-            offset,
-            size,
-        }
+fn reply<T>(answer: sys::Answer, given: T) -> Reply<T> {
+    let sys::Answer { number } = answer;
+    Reply { number, given }
+}
+
+fn written(written: sys::Written) -> Reply<usize> {
+    let sys::Written { answer, bytes } = written;
+    reply(answer, bytes)
+}
+
+fn entry_of(entry: sys::Entry) -> Entry {
+    let sys::Entry {
+        kind,
+        size,
+        min,
+        max,
+        offset,
+    } = entry;
+    Entry {
+        kind,
+        min,
+        max,
+        offset,
+        size,
     }
 }
 

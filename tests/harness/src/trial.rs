@@ -1,17 +1,19 @@
 //! Runs a call over lent memory and judges every lent cell afterwards: inputs are as they were, no
-//! cell beside a slice is touched, a refusal leaves all, and a good answer all past the result.
+//! cell beside a slice is touched, a refusal leaves all, and a good answer all past the result. A
+//! refusal gives nothing: every other field of it is 0.
 
-use crate::acts::{Acts, BlockOut, EntryOut, Query};
-use crate::call::{Answer, Call, Entry};
+use crate::acts::{Acts, Query, Reply};
+use crate::call::{Answer, Call};
 use crate::data::number_from_env;
-use crate::lent::{fill, holds_pattern, Cell, Lent, Memory, Out};
+use crate::lent::{fill, holds_pattern, Cell, Lent, Memory};
 
-/// What is wrong with lent memory after a call.
+/// What is wrong with a call's reply, or with lent memory after it.
 type Fault = &'static str;
 
 const INPUT_CHANGED: Fault = "an input was changed";
 const STEPPED_OUTSIDE: Fault = "memory beside what was lent was changed";
 const REFUSAL_WROTE: Fault = "a refusal wrote to an output";
+const REFUSAL_GAVE: Fault = "a refusal gave a number that is not 0";
 const WROTE_PAST_RESULT: Fault = "an output was changed past the result";
 const RESULT_TOO_LONG: Fault = "the result is said to be longer than the output";
 
@@ -57,21 +59,17 @@ impl<'a> Trial<'a> {
             } => self.read_block(query, times, values),
             Call::ReadPoint { query } => self.read_point(query),
             Call::Write { roll, capacity } => {
-                self.lay(roll, &[], capacity, |roll, _, out, written| {
-                    acts.write(roll, out, written)
-                })
+                self.lay(roll, &[], capacity, |roll, _, out| acts.write(roll, out))
             }
-            Call::Unroll { image, capacity } => {
-                self.lay(image, &[], capacity, |image, _, out, written| {
-                    acts.unroll(image, out, written)
-                })
-            }
+            Call::Unroll { image, capacity } => self.lay(image, &[], capacity, |image, _, out| {
+                acts.unroll(image, out)
+            }),
             Call::Merge {
                 older,
                 newer,
                 capacity,
-            } => self.lay(older, newer, capacity, |older, newer, out, written| {
-                acts.merge(older, newer, out, written)
+            } => self.lay(older, newer, capacity, |older, newer, out| {
+                acts.merge(older, newer, out)
             }),
         };
         answer.unwrap_or_else(Answer::Fault)
@@ -79,55 +77,44 @@ impl<'a> Trial<'a> {
 
     fn check(&mut self, image: &[u8]) -> Result<Answer, Fault> {
         let acts = self.acts;
-        let (mut keys, mut points) = (Out::default(), Out::default());
-        let number = self.inputs.lend(image, &[], |image, _| {
-            acts.check(image, keys.cell(), points.cell())
-        })?;
-        let (keys, points) = (judge(number, keys)?, judge(number, points)?);
-        Ok(answer(number, Answer::Totals { keys, points }))
+        let reply = self.inputs.lend(image, &[], |image, _| acts.check(image))?;
+        answer(reply, |totals| Answer::Totals {
+            keys: totals.keys,
+            points: totals.points,
+        })
     }
 
     fn find(&mut self, query: Query) -> Result<Answer, Fault> {
         let acts = self.acts;
-        let (number, entry) = self.inputs.ask(query, |query, out| acts.find(query, out))?;
-        Ok(answer(number, Answer::Entry(entry)))
+        let reply = self.inputs.ask(query, |query| acts.find(query))?;
+        answer(reply, Answer::Entry)
     }
 
     fn read_point(&mut self, query: Query) -> Result<Answer, Fault> {
         let acts = self.acts;
-        let mut value = Out::default();
-        let (number, entry) = self.inputs.ask(query, |query, out| {
-            acts.read_point(query, out, value.cell())
-        })?;
-        let value = judge(number, value)?;
-        Ok(answer(number, Answer::Point { entry, value }))
+        let reply = self.inputs.ask(query, |query| acts.read_point(query))?;
+        answer(reply, |point| Answer::Point {
+            entry: point.entry,
+            value: point.value,
+        })
     }
 
     fn read_block(&mut self, query: Query, times: usize, values: usize) -> Result<Answer, Fault> {
         let acts = self.acts;
-        let mut count = Out::default();
-        let lent_times = lend_pattern(&mut *self.times, times);
-        let lent_values = lend_pattern(&mut *self.values, values);
-        let (number, entry) = self.inputs.ask(query, |query, out| {
-            let out = BlockOut {
-                times: lent_times,
-                values: lent_values,
-                entry: out,
-                count: count.cell(),
-            };
-            acts.read_block(query, out)
-        })?;
-        let count = judge(number, count)?;
-        let times = judge_slice(number, lent_times, count)?;
-        let values = judge_slice(number, lent_values, count)?;
+        let times = lend_pattern(&mut *self.times, times);
+        let values = lend_pattern(&mut *self.values, values);
+        let reply = self
+            .inputs
+            .ask(query, |query| acts.read_block(query, times, values))?;
+        let times = judge_slice(reply.number, times, reply.given.count)?;
+        let values = judge_slice(reply.number, values, reply.given.count)?;
         ensure(self.times.canaries_live(), STEPPED_OUTSIDE)?;
         ensure(self.values.canaries_live(), STEPPED_OUTSIDE)?;
-        let block = Answer::Block {
-            entry,
+        answer(reply, |block| Answer::Block {
+            entry: block.entry,
             times,
             values,
-        };
-        Ok(answer(number, block))
+        })
     }
 
     /// Runs an act that lays bytes.
@@ -136,17 +123,15 @@ impl<'a> Trial<'a> {
         first: &[u8],
         second: &[u8],
         capacity: usize,
-        act: impl FnOnce(&[u8], &[u8], &mut [u8], &mut usize) -> u8,
+        act: impl FnOnce(&[u8], &[u8], &mut [u8]) -> Reply<usize>,
     ) -> Result<Answer, Fault> {
-        let mut written = Out::default();
         let out = lend_pattern(&mut *self.out, capacity);
-        let number = self.inputs.lend(first, second, |first, second| {
-            act(first, second, out, written.cell())
-        })?;
-        let written = judge(number, written)?;
-        let bytes = judge_slice(number, out, written)?;
+        let reply = self
+            .inputs
+            .lend(first, second, |first, second| act(first, second, out))?;
+        let bytes = judge_slice(reply.number, out, reply.given)?;
         ensure(self.out.canaries_live(), STEPPED_OUTSIDE)?;
-        Ok(answer(number, Answer::Bytes(bytes)))
+        answer(reply, |_| Answer::Bytes(bytes))
     }
 }
 
@@ -158,66 +143,30 @@ struct Inputs {
 
 impl Inputs {
     /// Lends copies of both inputs to `act`, which must leave them as they are.
-    fn lend(
+    fn lend<T>(
         &mut self,
         first: &[u8],
         second: &[u8],
-        act: impl FnOnce(&[u8], &[u8]) -> u8,
-    ) -> Result<u8, Fault> {
+        act: impl FnOnce(&[u8], &[u8]) -> Reply<T>,
+    ) -> Result<Reply<T>, Fault> {
         let lent_first = lend_copy(&mut *self.first, first);
         let lent_second = lend_copy(&mut *self.second, second);
-        let number = act(lent_first, lent_second);
+        let reply = act(lent_first, lent_second);
         ensure(lent_first == first, INPUT_CHANGED)?;
         ensure(lent_second == second, INPUT_CHANGED)?;
         ensure(self.first.canaries_live(), STEPPED_OUTSIDE)?;
         ensure(self.second.canaries_live(), STEPPED_OUTSIDE)?;
-        Ok(number)
+        Ok(reply)
     }
 
-    /// Runs an act that answers an entry.
-    fn ask(
+    /// Runs an act that is asked for a key and time.
+    fn ask<T>(
         &mut self,
         query: Query,
-        act: impl FnOnce(Query, EntryOut) -> u8,
-    ) -> Result<(u8, Entry), Fault> {
-        let mut out = EntryCells::default();
+        act: impl FnOnce(Query) -> Reply<T>,
+    ) -> Result<Reply<T>, Fault> {
         let Query { image, key, time } = query;
-        let number = self.lend(image, key, |image, key| {
-            act(Query { image, key, time }, out.lend())
-        })?;
-        Ok((number, out.judge(number)?))
-    }
-}
-
-/// The out parameters of an entry.
-#[derive(Default)]
-struct EntryCells {
-    kind: Out<u8>,
-    min: Out<i64>,
-    max: Out<i64>,
-    offset: Out<u64>,
-    size: Out<u32>,
-}
-
-impl EntryCells {
-    fn lend(&mut self) -> EntryOut<'_> {
-        EntryOut {
-            kind: self.kind.cell(),
-            min: self.min.cell(),
-            max: self.max.cell(),
-            offset: self.offset.cell(),
-            size: self.size.cell(),
-        }
-    }
-
-    fn judge(self, number: u8) -> Result<Entry, Fault> {
-        Ok(Entry {
-            kind: judge(number, self.kind)?,
-            min: judge(number, self.min)?,
-            max: judge(number, self.max)?,
-            offset: judge(number, self.offset)?,
-            size: judge(number, self.size)?,
-        })
+        self.lend(image, key, |image, key| act(Query { image, key, time }))
     }
 }
 
@@ -233,13 +182,6 @@ fn lend_pattern<T: Cell>(memory: &mut dyn Lent<T>, length: usize) -> &mut [T] {
     lent
 }
 
-/// The value of an out parameter, which a refusal must leave.
-fn judge<T: Cell>(number: u8, out: Out<T>) -> Result<T, Fault> {
-    ensure(out.canaries_live(), STEPPED_OUTSIDE)?;
-    ensure(number == 0 || out.is_untouched(), REFUSAL_WROTE)?;
-    Ok(out.value())
-}
-
 /// The result in an output: its first `count` cells, or none for a refusal.
 fn judge_slice<T: Cell>(number: u8, cells: &[T], count: usize) -> Result<Vec<T>, Fault> {
     if number != 0 {
@@ -251,10 +193,17 @@ fn judge_slice<T: Cell>(number: u8, cells: &[T], count: usize) -> Result<Vec<T>,
     Ok(result.to_vec())
 }
 
-fn answer(number: u8, good: Answer) -> Answer {
-    match number {
-        0 => good,
-        _ => Answer::Refused(number),
+/// The answer of what is given, or of a refusal, which must give nothing.
+fn answer<T: Default + PartialEq>(
+    reply: Reply<T>,
+    good: impl FnOnce(T) -> Answer,
+) -> Result<Answer, Fault> {
+    match reply.number {
+        0 => Ok(good(reply.given)),
+        number => {
+            ensure(reply.given == T::default(), REFUSAL_GAVE)?;
+            Ok(Answer::Refused(number))
+        }
     }
 }
 
@@ -265,6 +214,8 @@ fn ensure(holds: bool, fault: Fault) -> Result<(), Fault> {
 #[cfg(test)]
 mod tests {
     use super::*;
+    use crate::acts::{Block, Point, Totals};
+    use crate::call::Entry;
     use crate::lent::Padded;
 
     /// What [`Faulty`] does wrong when it writes.
@@ -275,53 +226,53 @@ mod tests {
         CountThenRefuse,
     }
 
-    /// Write by one that does not keep to the rules of lent memory.
+    /// Write by one that does not keep to the rules of lent memory and of refusals.
     struct Faulty(Wrong);
 
     impl Acts for Faulty {
-        fn write(&self, _: &[u8], out: &mut [u8], written: &mut usize) -> u8 {
-            match self.0 {
-                Wrong::WriteThenRefuse => out[0] = !out[0],
-                Wrong::ClaimTooMuch => *written = out.len() + 1,
+        fn write(&self, _: &[u8], out: &mut [u8]) -> Reply<usize> {
+            let (number, given) = match self.0 {
+                Wrong::WriteThenRefuse => {
+                    out[0] = !out[0];
+                    (19, 0)
+                }
+                Wrong::ClaimTooMuch => (0, out.len() + 1),
                 Wrong::WritePastResult => {
                     out[1] = !out[1];
-                    *written = 1;
+                    (0, 1)
                 }
-                Wrong::CountThenRefuse => *written = 1,
-            }
-            match self.0 {
-                Wrong::WriteThenRefuse | Wrong::CountThenRefuse => 19,
-                Wrong::ClaimTooMuch | Wrong::WritePastResult => 0,
-            }
+                Wrong::CountThenRefuse => (19, 1),
+            };
+            Reply { number, given }
         }
 
-        fn check(&self, _: &[u8], _: &mut u64, _: &mut u64) -> u8 {
+        fn check(&self, _: &[u8]) -> Reply<Totals> {
             unimplemented!()
         }
-        fn find(&self, _: Query, _: EntryOut) -> u8 {
+        fn find(&self, _: Query) -> Reply<Entry> {
             unimplemented!()
         }
-        fn read_block(&self, _: Query, _: BlockOut) -> u8 {
+        fn read_block(&self, _: Query, _: &mut [i64], _: &mut [i64]) -> Reply<Block> {
             unimplemented!()
         }
-        fn read_point(&self, _: Query, _: EntryOut, _: &mut i64) -> u8 {
+        fn read_point(&self, _: Query) -> Reply<Point> {
             unimplemented!()
         }
-        fn unroll(&self, _: &[u8], _: &mut [u8], _: &mut usize) -> u8 {
+        fn unroll(&self, _: &[u8], _: &mut [u8]) -> Reply<usize> {
             unimplemented!()
         }
-        fn merge(&self, _: &[u8], _: &[u8], _: &mut [u8], _: &mut usize) -> u8 {
+        fn merge(&self, _: &[u8], _: &[u8], _: &mut [u8]) -> Reply<usize> {
             unimplemented!()
         }
     }
 
     #[test]
-    fn faults_in_lent_memory_are_seen() {
+    fn faults_are_seen() {
         for (wrong, fault) in [
             (Wrong::WriteThenRefuse, REFUSAL_WROTE),
             (Wrong::ClaimTooMuch, RESULT_TOO_LONG),
             (Wrong::WritePastResult, WROTE_PAST_RESULT),
-            (Wrong::CountThenRefuse, REFUSAL_WROTE),
+            (Wrong::CountThenRefuse, REFUSAL_GAVE),
         ] {
             let faulty = Faulty(wrong);
             let answer = Trial::new(&faulty, &Padded).run(Call::Write {

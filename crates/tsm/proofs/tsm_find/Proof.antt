@@ -1,5 +1,5 @@
 -- `tsm_find` meets its contract: the case that `find` answers says what is given.
-use mathlib.Core.Path.{refl, ap, sym, _∙_}
+use mathlib.Core.Path.{ap, sym, _∙_}
 use mir.Syntax.{w64}
 use mir.ValLaws.{toZ-ofZ}
 use Rattle.format.specs.Acts.{foundSays}
@@ -13,29 +13,36 @@ find-requires c κs = search needs
 enum-known-entry : tie.Need-enum-known-entry
 enum-known-entry c = search needs
 
-put-entry-requires : tie.Need-put-entry-requires
-put-entry-requires c κs = search needs
+accepted-requires : tie.Need-accepted-requires
+accepted-requires c κs = search needs
+
+given-entry-requires : tie.Need-given-entry-requires
+given-entry-requires c κs = search needs
 
 enum-known-refusal : tie.Need-enum-known-refusal
 enum-known-refusal c = search needs
 
-number-requires : tie.Need-number-requires
-number-requires c κs = search needs
+refused-requires : tie.Need-refused-requires
+refused-requires c κs = search needs
+
+no-entry-requires : tie.Need-no-entry-requires
+no-entry-requires c κs = search needs
 
 returns : tie.Need-returns
 returns c =
-    let found = c .before .before .before .before .before .before .before .before .before in
+    let found = c .before .before .before .before .before in
     let start = found .before .before .before in
     let said = rw (toZ-ofZ w64 (start .args .time) (start .fits .time)) at (found .find .ensures) in
-    let entry = c .before .before .before .before .before .before .before .entry .given in
-    rw (sym said ∙ ap foundSays (entry .1)) (refl, c .put-entry .ensures)
+    let entry = c .before .before .before .entry .given in
+    rw (sym said ∙ ap foundSays (entry .1), c .before .accepted .ensures, c .given-entry .ensures)
 
 returns-2 : tie.Need-returns-2
 returns-2 c =
-    let found = c .before .before .before .before in
+    let found = c .before .before .before .before .before in
     let start = found .before .before .before in
     let said = rw (toZ-ofZ w64 (start .args .time) (start .fits .time)) at (found .find .ensures) in
-    rw (sym said ∙ ap foundSays (c .before .before .refusal .given .1)) (c .number .ensures, (refl, (refl, (refl, (refl, refl)))))
+    let refusal = c .before .before .before .refusal .given in
+    rw (sym said ∙ ap foundSays (refusal .1), c .before .refused .ensures, c .no-entry .ensures)
 
 pub tsm-find-spec : {M : Type 1} → statement M
 tsm-find-spec =
@@ -43,8 +50,10 @@ tsm-find-spec =
     (tie.spec
     find-requires
     enum-known-entry
-    put-entry-requires
+    accepted-requires
+    given-entry-requires
     enum-known-refusal
-    number-requires
+    refused-requires
+    no-entry-requires
     returns
     returns-2)

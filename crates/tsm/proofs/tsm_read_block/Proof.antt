@@ -13,14 +13,20 @@ read-block-requires c κs = search needs
 enum-known-entry : tie.Need-enum-known-entry
 enum-known-entry c = search needs
 
-put-entry-requires : tie.Need-put-entry-requires
-put-entry-requires c κs = search needs
+accepted-requires : tie.Need-accepted-requires
+accepted-requires c κs = search needs
+
+given-entry-requires : tie.Need-given-entry-requires
+given-entry-requires c κs = search needs
 
 enum-known-refusal : tie.Need-enum-known-refusal
 enum-known-refusal c = search needs
 
-number-requires : tie.Need-number-requires
-number-requires c κs = search needs
+refused-requires : tie.Need-refused-requires
+refused-requires c κs = search needs
+
+no-entry-requires : tie.Need-no-entry-requires
+no-entry-requires c κs = search needs
 
 same-length : tie.Need-same-length
 same-length c = search needs
@@ -30,11 +36,11 @@ same-length-2 c = search needs
 
 returns : tie.Need-returns
 returns c =
-    let read = c .before .before .before .before .before .before .before .before .before .before .before in
+    let read = c .before .before .before .before .before .before .before in
     let start = read .before .before .before .before .before in
     let said = rw (toZ-ofZ w64 (start .args .time) (start .fits .time)) at (read .read-block .ensures) in
-    let block = c .before .before .before .before .before .before .before .entry .given in
-    rw (sym (said .0) ∙ ap blockReadSays (block .1)) (refl, (said .1 .0, (said .1 .1, (refl, c .put-entry .ensures))))
+    let block = c .before .before .before .entry .given in
+    rw (sym (said .0) ∙ ap blockReadSays (block .1), c .before .accepted .ensures, c .given-entry .ensures) (refl, said .1)
 
 same-length-3 : tie.Need-same-length-3
 same-length-3 c = search needs
@@ -44,11 +50,11 @@ same-length-4 c = search needs
 
 returns-2 : tie.Need-returns-2
 returns-2 c =
-    let read = c .before .before .before .before .before .before in
+    let read = c .before .before .before .before .before .before .before in
     let start = read .before .before .before .before .before in
     let said = rw (toZ-ofZ w64 (start .args .time) (start .fits .time)) at (read .read-block .ensures) in
-    rw (sym (said .0) ∙ ap blockReadSays (c .before .before .refusal .given .1))
-    (c .number .ensures, (said .1 .0, (said .1 .1, (refl, (refl, (refl, (refl, (refl, refl))))))))
+    let refusal = c .before .before .before .refusal .given in
+    rw (sym (said .0) ∙ ap blockReadSays (refusal .1), c .before .refused .ensures, c .no-entry .ensures) (refl, said .1)
 
 pub tsm-read-block-spec : {M : Type 1} → statement M
 tsm-read-block-spec =
@@ -56,9 +62,11 @@ tsm-read-block-spec =
     (tie.spec
     read-block-requires
     enum-known-entry
-    put-entry-requires
+    accepted-requires
+    given-entry-requires
     enum-known-refusal
-    number-requires
+    refused-requires
+    no-entry-requires
     same-length
     same-length-2
     returns
