@@ -212,7 +212,11 @@ fn input_or_output_that_is_closed() {
         return;
     };
     for line in ["exec \"$0\" <&-", "exec \"$0\" </dev/null >&-"] {
-        let shell = Command::new("sh").arg("-c").arg(line).arg(&program).output();
+        let shell = Command::new("sh")
+            .arg("-c")
+            .arg(line)
+            .arg(&program)
+            .output();
         expect_failure(Path::new(&program), shell.expect("a shell"));
     }
 }
