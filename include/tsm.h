@@ -13,9 +13,9 @@
  * - An output overlaps no other argument. Inputs may overlap.
  * - Nothing else writes to an argument while the function runs.
  *
- * The functions use no heap and keep no state: several threads may call them at the same time. Stack that they need, as
- * measured: tsm_find 1 KiB, tsm_write 26 KiB, tsm_merge 66 KiB, the others 19 KiB. A thread with 64 KiB of stack is
- * enough for all but tsm_merge, which crashes in it; one with 128 KiB is enough for all.
+ * The functions use no heap and keep no state: several threads may call them at the same time. The stack that they need
+ * is measured, not proved: up to 2 KiB for tsm_find, 28 KiB for tsm_write, 68 KiB for tsm_merge, 20 KiB for the others. A
+ * thread with 64 KiB of stack is enough for all but tsm_merge, which crashes in it; one with 128 KiB is enough for all.
  *
  * The library is for x86-64. Of the C library it needs memcpy and memset alone. */
 #ifndef TSM_H

@@ -301,7 +301,7 @@ pub fn unroll_into(image: &[u8], out: &mut [u8]) -> Result<usize, Error> {
 }
 
 /// Merges an older and a newer image: the image of their points, and where both have a point of one key and time, the
-/// newer image's.
+/// newer image's. It needs up to 68 KiB of stack, the other functions up to 28 KiB.
 ///
 /// # Errors
 ///
@@ -393,6 +393,13 @@ mod tests {
             has(format!("{} = {}", constant(error.name()), error.number()));
             has(format!(" /* {} */", error.sentence()));
         }
+    }
+
+    /// The Makefile installs the version of this crate.
+    #[test]
+    fn version_is_that_of_the_makefile() {
+        let version = concat!("VERSION = ", env!("CARGO_PKG_VERSION"), "\n");
+        assert!(include_str!("../../../Makefile").contains(version));
     }
 
     /// The layout that the C tests assert of the header's structs is that of `sys`, field by field.

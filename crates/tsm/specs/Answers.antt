@@ -1,5 +1,5 @@
 -- The structs that the C interface answers by value: what each holds where an act gives values, and where it refuses.
--- "Every other field is 0 on a refusal."
+-- On a refusal every field but those of `answer` is 0.
 --   acceptedAnswer, refusedAnswer   the part that all have: the number 0, or that of the refusal
 --   entryOf, noEntry                an entry that is given, and that of a refusal
 --   checkedOf, foundOf, blockOf, pointOf, writtenOf   the struct of each answer
