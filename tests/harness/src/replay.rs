@@ -46,7 +46,14 @@ impl Fields<'_> {
     }
 
     fn bytes(&self, place: usize) -> Result<Vec<u8>, Fault> {
-        self.field(place).map(unhex)
+        let field = self.field(place)?;
+        let is_hex = field.len() >= 2
+            && field.len() % 2 == 0
+            && field.bytes().all(|digit| digit.is_ascii_hexdigit());
+        match is_hex || field == "-" {
+            true => Ok(unhex(field)),
+            false => Err(format!("field {place} is no bytes in hex")),
+        }
     }
 
     fn number<T: FromStr<Err: Display>>(&self, place: usize) -> Result<T, Fault> {

@@ -59,6 +59,8 @@ fn lines_that_are_no_cases() {
     let mut replay = Replay::new(Guarded::After);
     for (line, fault) in [
         ("cheque -", "no act is called \"cheque\""),
+        ("check 0g", "field 1 is no bytes in hex"),
+        ("check 012", "field 1 is no bytes in hex"),
         ("find - -", "field 3 is missing"),
         ("write - many", "field 2: invalid digit found in string"),
     ] {
