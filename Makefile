@@ -4,7 +4,7 @@
 # make test-interface   the C and Rust faces of the library, and the examples
 # make bench            speed, instructions and stack of the library beside ordinary Rust: target/bench.md and .svg
 # make bench-docs       the same, put into docs/BENCHMARKS.md
-# make install          library, header, pkg-config file and, where it is built, the program, below DESTDIR and PREFIX
+# make install          library, headers, pkg-config file and, where it is built, the program, below DESTDIR and PREFIX
 # make uninstall        removes what install put there
 .PHONY: run test lib test-interface bench bench-docs install uninstall
 
@@ -57,10 +57,10 @@ bench-docs: bench
 install: $(ARCHIVE)
 	install -d "$(DESTDIR)$(PREFIX)/lib/pkgconfig" "$(DESTDIR)$(PREFIX)/include"
 	install -m 644 $(ARCHIVE) "$(DESTDIR)$(PREFIX)/lib/libtsm.a"
-	install -m 644 include/tsm.h "$(DESTDIR)$(PREFIX)/include/tsm.h"
+	install -m 644 include/tsm.h include/tsm_roll.h "$(DESTDIR)$(PREFIX)/include"
 	sed -e 's|@PREFIX@|$(PREFIX)|' -e 's|@VERSION@|$(VERSION)|' tsm.pc.in > "$(DESTDIR)$(PREFIX)/lib/pkgconfig/tsm.pc"
 	chmod 644 "$(DESTDIR)$(PREFIX)/lib/pkgconfig/tsm.pc"
 	if [ -f $(PROGRAM) ]; then install -d "$(DESTDIR)$(PREFIX)/bin" && install -m 755 $(PROGRAM) "$(DESTDIR)$(PREFIX)/bin/roll_to_tsm"; fi
 
 uninstall:
-	rm -f "$(DESTDIR)$(PREFIX)/lib/libtsm.a" "$(DESTDIR)$(PREFIX)/include/tsm.h" "$(DESTDIR)$(PREFIX)/lib/pkgconfig/tsm.pc" "$(DESTDIR)$(PREFIX)/bin/roll_to_tsm"
+	rm -f "$(DESTDIR)$(PREFIX)/lib/libtsm.a" "$(DESTDIR)$(PREFIX)/include/tsm.h" "$(DESTDIR)$(PREFIX)/include/tsm_roll.h" "$(DESTDIR)$(PREFIX)/lib/pkgconfig/tsm.pc" "$(DESTDIR)$(PREFIX)/bin/roll_to_tsm"

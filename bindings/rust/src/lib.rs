@@ -1,9 +1,9 @@
 //! TSM files: check an image, find an entry, read a block or a point, write, unroll and merge images.
 //!
 //! An image is the whole of a TSM file, as bytes; a roll is the plain list of its series. The work is done by the proved
-//! static library `libtsm.a`; this crate gives it Rust's types, and iterators over keys and blocks ([`Index`]) and points
-//! ([`Points`]). It uses only the standard library. The directory of `libtsm.a` is `TSM_LIB_DIR` when the crate is built,
-//! or `target/staticlib` of the repository.
+//! static library `libtsm.a`; this crate gives it Rust's types, iterators over keys and blocks ([`Index`]) and points
+//! ([`Points`]), and rolls put together key by key ([`Roll`]). It uses only the standard library. The directory of
+//! `libtsm.a` is `TSM_LIB_DIR` when the crate is built, or `target/staticlib` of the repository.
 //!
 //! ```
 //! let image = std::fs::read("../../examples/booleans.tsm")?;
@@ -19,12 +19,14 @@
 #![deny(unsafe_code)]
 
 mod error;
+mod roll;
 #[doc(hidden)] // public for tests of the C functions themselves
 #[allow(missing_docs, unsafe_code)]
 pub mod sys;
 mod walk;
 
 pub use error::Error;
+pub use roll::{Roll, RollError};
 pub use walk::{Index, Key, Points, Series};
 
 /// The Rust examples of README.md, which are run with those of this crate.

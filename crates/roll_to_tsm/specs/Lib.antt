@@ -1,3 +1,3 @@
 -- What the program says of its reads.
---   Input   what two reads of standard input give
+--   Input   what was read of standard input
 pub mod Input

@@ -7,6 +7,7 @@
 //! | [`lent`] | memory that shows a step outside a lent slice |
 //! | [`trial`] | runs a call over lent memory and judges every lent cell |
 //! | `library` | the static library behind the same interface (feature `library`) |
+//! | `replay` | case lines answered through the C interface (feature `library`) |
 //! | [`data`] | the conformance cases and peer files |
 //! | [`random`] | random numbers from a seed |
 //! | [`model`] | the points of a file as maps |
@@ -30,6 +31,9 @@ pub mod trial;
 #[cfg(feature = "library")]
 #[allow(unsafe_code)]
 pub mod library;
+
+#[cfg(feature = "library")]
+pub mod replay;
 
 /// Makes each function, which takes a `&mut Trial`, a test of the reference, and with the feature
 /// `library` a test of the library in guarded memory.

@@ -2,9 +2,10 @@
 //!
 //! The reference's program is run always, and the one that TSM_PROGRAM names.
 
+use std::fs::File;
 use std::io::Write;
 use std::path::{Path, PathBuf};
-use std::process::{Command, Stdio};
+use std::process::{Command, Output, Stdio};
 use std::thread;
 use std::time::Duration;
 
@@ -140,6 +141,83 @@ fn input_in_pieces() {
         expect_in_pieces(&program, &small, 1, &image(&small));
         expect_in_pieces(&program, &full, 4_097, &image(&full));
         expect_in_pieces(&program, &too_long, 4_096, SHORT_OUTPUT);
+    }
+}
+
+/// What the program does with this input and output.
+fn run_with(program: &Path, input: impl Into<Stdio>, output: impl Into<Stdio>) -> Output {
+    let child = Command::new(program)
+        .stdin(input)
+        .stdout(output)
+        .stderr(Stdio::piped())
+        .spawn();
+    let child = child.unwrap_or_else(|error| panic!("{}: {error}", program.display()));
+    child.wait_with_output().expect("the program ends")
+}
+
+/// Nothing was written, and standard error was told why.
+fn expect_failure(program: &Path, output: Output) {
+    assert!(
+        output.stdout.is_empty() && !output.stderr.is_empty(),
+        "{} writes {} where it cannot go on, and says {:?}",
+        program.display(),
+        Hex(&output.stdout),
+        String::from_utf8_lossy(&output.stderr),
+    );
+}
+
+/// A read that fails at once: of a folder.
+#[test]
+fn input_that_cannot_be_read() {
+    for program in programs() {
+        let folder = File::open(env!("CARGO_MANIFEST_DIR")).expect("a folder");
+        expect_failure(&program, run_with(&program, folder, Stdio::piped()));
+    }
+}
+
+/// A read that fails after half of a roll, which is a good roll too.
+#[cfg(target_os = "linux")]
+#[test]
+fn input_that_breaks_off() {
+    use std::os::fd::OwnedFd;
+    use std::os::unix::net::UnixStream;
+
+    for program in programs() {
+        let (mut sender, mut receiver) = UnixStream::pair().expect("a pair of sockets");
+        // Where a sender goes away before it has read all, its receiver's next read fails.
+        receiver.write_all(b"unread").expect("room");
+        sender.write_all(&[1, b'a', 2, 1, 0, 1]).expect("room");
+        drop(sender);
+        let input = OwnedFd::from(receiver);
+        expect_failure(&program, run_with(&program, input, Stdio::piped()));
+    }
+}
+
+/// A write that fails: the program ends, and says so.
+#[cfg(target_os = "linux")]
+#[test]
+fn output_that_cannot_be_written() {
+    for program in programs() {
+        let full = File::options().write(true).open("/dev/full");
+        let full = full.expect("a device that is full");
+        expect_failure(&program, run_with(&program, Stdio::null(), full));
+    }
+}
+
+/// Standard input or output that is closed. (The reference's is opened again by Rust's runtime.)
+#[cfg(unix)]
+#[test]
+fn input_or_output_that_is_closed() {
+    let Some(program) = std::env::var_os("TSM_PROGRAM") else {
+        return;
+    };
+    for line in ["exec \"$0\" <&-", "exec \"$0\" </dev/null >&-"] {
+        let shell = Command::new("sh")
+            .arg("-c")
+            .arg(line)
+            .arg(&program)
+            .output();
+        expect_failure(Path::new(&program), shell.expect("a shell"));
     }
 }
 

@@ -1,0 +1,69 @@
+//! Replays every conformance case, the program's too, through the C interface.
+#![cfg(feature = "library")]
+
+use tsm_harness::data::{self, shortened};
+use tsm_harness::library::Guarded;
+use tsm_harness::replay::Replay;
+
+const CASES: [&str; 8] = [
+    "check",
+    "find",
+    "read_block",
+    "read_point",
+    "write",
+    "unroll",
+    "merge",
+    "program",
+];
+
+/// The answer without the place of a refusal, which the C interface does not give.
+fn without_place(answer: &str) -> String {
+    match answer.strip_prefix("refused ") {
+        Some(rest) => format!("refused {}", rest.split(' ').next().unwrap_or_default()),
+        None => answer.to_string(),
+    }
+}
+
+fn replay_all(guarded: Guarded) {
+    let mut replay = Replay::new(guarded);
+    let mut replayed = 0;
+    for case in CASES.into_iter().flat_map(data::cases) {
+        let answer = replay.answer(&case.case);
+        let answer = answer.unwrap_or_else(|fault| panic!("{}: {fault}", case.name));
+        let expected = without_place(&case.answer);
+        assert!(
+            answer == expected,
+            "{}: {} and not {}",
+            case.name,
+            shortened(&answer),
+            shortened(&expected)
+        );
+        replayed += 1;
+    }
+    assert_eq!(replayed, 6_544);
+}
+
+#[test]
+fn with_a_guard_after_each_slice() {
+    replay_all(Guarded::After);
+}
+
+#[test]
+fn with_a_guard_before_each_slice() {
+    replay_all(Guarded::Before);
+}
+
+/// A line that is no case is told by what is wrong with it.
+#[test]
+fn lines_that_are_no_cases() {
+    let mut replay = Replay::new(Guarded::After);
+    for (line, fault) in [
+        ("cheque -", "no act is called \"cheque\""),
+        ("check 0g", "field 1 is no bytes in hex"),
+        ("check 012", "field 1 is no bytes in hex"),
+        ("find - -", "field 3 is missing"),
+        ("write - many", "field 2: invalid digit found in string"),
+    ] {
+        assert_eq!(replay.answer(line).unwrap_err(), fault);
+    }
+}
