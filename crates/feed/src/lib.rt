@@ -92,7 +92,8 @@ pub fn key(image: &[u8], feed: Feed) -> &[u8]
     let start = feed.start;
     let cursor = feed.cursor;
     let place = cursor.key;
-    let from = start.0 + place.at.0;
+    let at = place.at.in_image(start);
+    let from = at.0;
     let end = from + place.len;
     &image[from..end]
 }
