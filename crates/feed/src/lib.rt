@@ -47,19 +47,19 @@ pub fn first(image: &[u8]) -> Feed
     ensures { λ r. ⌜ Begun (now (image .entry)) r ⌝ }
 {
     let cursor = index::first();
-    match index::check_frame(image) {
-        Frame::IndexAt(start) => Feed {
-            start,
+    let Frame::IndexAt(start) = index::check_frame(image) else {
+        return Feed {
+            start: ImagePlace(0),
             cursor,
             next: 0,
             count: 0,
-        },
-        Frame::Refused(_, place) => Feed {
-            start: place,
-            cursor,
-            next: 0,
-            count: 0,
-        },
+        };
+    };
+    Feed {
+        start,
+        cursor,
+        next: 0,
+        count: 0,
     }
 }
 
