@@ -47,19 +47,19 @@ pub fn first(image: &[u8]) -> Feed
     ensures { λ r. ⌜ Begun (now (image .entry)) r ⌝ }
 {
     let cursor = index::first();
-    match index::check_frame(image) {
-        Frame::IndexAt(start) => Feed {
-            start,
+    let Frame::IndexAt(start) = index::check_frame(image) else {
+        return Feed {
+            start: ImagePlace(0),
             cursor,
             next: 0,
             count: 0,
-        },
-        Frame::Refused(_, place) => Feed {
-            start: place,
-            cursor,
-            next: 0,
-            count: 0,
-        },
+        };
+    };
+    Feed {
+        start,
+        cursor,
+        next: 0,
+        count: 0,
     }
 }
 
@@ -92,7 +92,8 @@ pub fn key(image: &[u8], feed: Feed) -> &[u8]
     let start = feed.start;
     let cursor = feed.cursor;
     let place = cursor.key;
-    let from = start.0 + place.at.0;
+    let at = place.at.in_image(start);
+    let from = at.0;
     let end = from + place.len;
     &image[from..end]
 }

@@ -25,13 +25,13 @@ module _ (s : tie.Start) where
   timesPart = take (s .args .split - s .args .next) (drop (s .args .next) (s .args .block .now))
 
   abbrev timesPlaceAt : ℕ
-  timesPlaceAt = s .args .next + s .args .offset
+  timesPlaceAt = s .args .next + s .args .offset .0
 
   abbrev valuesPart : List ℕ
   valuesPart = drop (s .args .split) (s .args .block .now)
 
   abbrev valuesPlaceAt : ℕ
-  valuesPlaceAt = s .args .split + s .args .offset
+  valuesPlaceAt = s .args .split + s .args .offset .0
 
   -- the part up to the block's end
   values-part : take (length (s .args .block .now) - s .args .split) valuesPart ≡ valuesPart
@@ -73,8 +73,8 @@ no-times c =
 
 add-t22 : tie.Need-add-t22
 add-t22 c =
-    let s = c .before .before .before .before .before .before .before .before .before .before .before .before in
-    omega (arith, no-times c .within, part-length (s .args .block .now) (s .args .next) (s .args .split) (s .pre .1), s .pre)
+    let s = c .before .before .before .before .before .before .before .before .before .before .before .before .before in
+    omega (arith, no-times (c .before) .within, part-length (s .args .block .now) (s .args .next) (s .args .split) (s .pre .1), s .pre)
 
 same-length : tie.Need-same-length
 same-length c = search needs
@@ -84,8 +84,8 @@ same-length-2 c = search needs
 
 returns : tie.Need-returns
 returns c =
-    let a = c .before .before .before .before .before .before .before .before .before .before .before .before .args in
-    times-refused (a .kind) (a .offset) (a .next) (a .split) (a .block .now) _ _ _ _ (c .times-place .result) _ (no-times c)
+    let a = c .before .before .before .before .before .before .before .before .before .before .before .before .before .args in
+    times-refused (a .kind) (a .offset .0) (a .next) (a .split) (a .block .now) _ _ _ _ (c .before .times-place .result) _ (no-times (c .before))
 
 sub-read-values : tie.Need-sub-read-values
 sub-read-values c = search needs
@@ -162,7 +162,7 @@ no-values c =
     values-broken (s .args .kind) (valuesPlaceAt s) (n (known r)) (valuesPart s) (c .values-place .result) (rw here (sym (told3 .1) ∙ told r))
 
 add-t32 : tie.Need-add-t32
-add-t32 c = let s = from (c .before .before .before .before .before) in omega (arith, no-values c .within, length-drop (s .args .split) (s .args .block .now), s .pre)
+add-t32 c = let s = from (c .before .before .before .before .before .before) in omega (arith, no-values (c .before) .within, length-drop (s .args .split) (s .args .block .now), s .pre)
 
 same-length-3 : tie.Need-same-length-3
 same-length-3 c = search needs
@@ -172,9 +172,9 @@ same-length-4 c = search needs
 
 returns-2 : tie.Need-returns-2
 returns-2 c =
-    let r = c .before .before .before .before .before in
+    let r = c .before .before .before .before .before .before in
     let a = from r .args in
-    values-refused (a .kind) (a .offset) (a .next) (a .split) (a .block .now) _ _ _ _ (n (known r)) (stamps (known r)) (c .values-place .result) _ (no-values c)
+    values-refused (a .kind) (a .offset .0) (a .next) (a .split) (a .block .now) _ _ _ _ (n (known r)) (stamps (known r)) (c .before .values-place .result) _ (no-values (c .before))
 
 same-length-5 : tie.Need-same-length-5
 same-length-5 c = search needs
@@ -190,7 +190,7 @@ returns-3 c =
     let place = valuesPlaceAt (from r) in
     let laid = r .read-values .last .1 .1 .1 .0 in
     let read = values-read (a .kind) place (n k) (valuesPart (from r)) (lent k) laid (sym (c .enum-told2 .given .1) ∙ told r) (cells r) in
-    both-read (a .kind) (a .offset) (a .next) (a .split) (a .block .now) _ _ _ _ (n k) (stamps k)
+    both-read (a .kind) (a .offset .0) (a .next) (a .split) (a .block .now) _ _ _ _ (n k) (stamps k)
     (values-over (a .kind) place (n k) (valuesPart (from r)) (a .values .now) (lent k) laid (spare k) read)
 
 pub read-parts-spec : {M : Type 1} → statement M

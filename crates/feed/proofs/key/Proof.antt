@@ -7,8 +7,8 @@ use Rattle.feed.proofs.Keys.{key-part}
 use Rattle.feed.proofs.key.Statement.{statement}
 use Rattle.feed.proofs.key.Tie as tie
 
-add-from : tie.Need-add-from
-add-from c = search needs
+in-image-requires : tie.Need-in-image-requires
+in-image-requires c κs = search needs
 
 add-end : tie.Need-add-end
 add-end c = search needs
@@ -27,8 +27,9 @@ part-result-end c =
 
 returns : tie.Need-returns
 returns c =
-    key-part (c .before .before .before .before .before .before .before .args .image .now) (c .before .before .before .before .before .before .before .args .feed) (c .before .before .before .before .before .before .before .pre)
+    let p = c .before .before .before .before .before .before .before in
+    rw (c .before .before .in-image .ensures) (key-part (p .args .image .now) (p .args .feed) (p .pre))
 
 pub key-spec : {M : Type 1} → statement M
 key-spec =
-    tie.close (tie.spec add-from add-end sub-result part-result-start part-result-end returns)
+    tie.close (tie.spec in-image-requires add-end sub-result part-result-start part-result-end returns)
