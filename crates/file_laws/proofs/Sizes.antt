@@ -30,7 +30,7 @@ use Rattle.numbers.proofs.Varints.{varint-length-least}
 use Rattle.section_laws.proofs.BlockLengths.{blockBytes-most}
 use Rattle.merging.proofs.Facts.{GoodSeries, facts}
 use Rattle.acceptance.proofs.Entries.{entry-size}
-use Rattle.acceptance.proofs.Layouts.{entryFor}
+use Rattle.acceptance.specs.Files.{entryFor}
 use Rattle.file_laws.proofs.Chunks.{Sized, chunks-sized, chunks-joined}
 use Rattle.file_laws.proofs.WriterBlocks.{blocksFor, blocks-count, blocks-entries}
 

@@ -26,9 +26,13 @@ use Rattle.format.specs.Acts.{checkResult, findAnswer, readBlockResult, readPoi
 use Rattle.format.proofs.AllBelow.{below-take, below-drop}
 use Rattle.format.proofs.Results.{ok-path, refused-not, Only, only-choice}
 use Rattle.roll.proofs.Rolls.{roll-refused}
+use Rattle.acceptance.specs.Files.{Keeps}
+use Rattle.acceptance.specs.Rolls.{KeepsRoll}
+use Rattle.acceptance.proofs.Accepted.{keeps-exactly}
 use Rattle.theorems.specs.Faults.{Unless, nothing, blockFault, indexFault, seriesFault, fault}
 use Rattle.theorems.specs.Exactly.{searchFault, findFault, oneBlockFault, readBlockFault, readPointFault, imageFault, writeFault, unrollFault, mergedFault, mergeFault, Exactly}
-use Rattle.theorems.proofs.Steps.{Exact, Refuses, ok-exactly, leb-exactly, both-exactly, require-exactly, some-exactly, bind-exactly, after, within, only-number}
+use Rattle.theorems.proofs.Steps.{Exact, Refuses, ok-exactly, leb-exactly, both-exactly, require-exactly, some-exactly, given-exactly, bind-exactly, after, within, only-number}
+use Rattle.theorems.proofs.Ours.{roll-reads, reads-roll}
 use Rattle.theorems.proofs.IndexFaults.{index-exactly}
 use Rattle.theorems.proofs.BlockFaults.{block-exactly, series-exactly}
 use Rattle.theorems.proofs.Searches.{finds}
@@ -139,17 +143,17 @@ image-exactly m buffer =
     require-exactly ImageTooLong 0 (leb (length (writerImage m)) imageMost) _ (leb-exactly (length (writerImage m)) imageMost)
     (fitted-exactly buffer (writerImage m))
 
-write-exactly : (roll buffer : List ℕ) → Exact (writeResult roll buffer) (writeFault roll buffer)
+write-exactly : (roll buffer : List ℕ) → AllBytes roll → Exact (writeResult roll buffer) (writeFault roll buffer)
 unfolding writeResult
-write-exactly roll buffer =
-    some-exactly BadRoll (λ m. m) (λ m. readRoll roll ≡ ok m) (λ m. imageFault m buffer) (readRoll roll) _ (roll-refused roll)
-    (λ m r. r) (λ m r. (m, r, refl)) (λ m r. image-exactly m buffer)
+write-exactly roll buffer all =
+    some-exactly BadRoll (λ m. m) (KeepsRoll roll) (λ m. imageFault m buffer) (readRoll roll) _ (roll-refused roll)
+    (λ m r. reads-roll roll m all r .keeps) (λ m k. (m, roll-reads roll m (record { bytes = all; keeps = k }), refl)) (λ m r. image-exactly m buffer)
 
 unroll-exactly : (image buffer : List ℕ) → AllBytes image → Exact (unrollResult image buffer) (unrollFault image buffer)
 unfolding unrollResult
 unroll-exactly image buffer all =
-    bind-exactly (fault image) (λ m. Unless (length (writerRoll m) ≤ length buffer) 19 nothing) (readFile image) _ (file-exactly image all)
-    (λ m is. fitted-exactly buffer (writerRoll m))
+    given-exactly (fault image) (Keeps image) (λ m. Unless (length (writerRoll m) ≤ length buffer) 19 nothing) (readFile image) _ (file-exactly image all)
+    (keeps-exactly image all) (λ m is. fitted-exactly buffer (writerRoll m))
 
 clash-exactly : (c : Bool) → (not c ≡ true) ↔ (c ≡ false)
 clash-exactly true = (λ e. sym e, λ e. sym e)
@@ -158,9 +162,9 @@ clash-exactly false = (λ e. refl, λ e. refl)
 merge-exactly : (older newer buffer : List ℕ) → AllBytes older → AllBytes newer → Exact (mergeResult older newer buffer) (mergeFault older newer buffer)
 unfolding mergeResult
 merge-exactly older newer buffer all₁ all₂ =
-    bind-exactly (fault older) (λ o n. fault newer n ⊎ ((m : Meaning) × (readFile newer ≡ ok m) × mergedFault o m buffer n)) (readFile older) _
-    (file-exactly older all₁)
-    (λ o is. bind-exactly (fault newer) (λ m. mergedFault o m buffer) (readFile newer) _ (file-exactly newer all₂)
+    given-exactly (fault older) (Keeps older) (λ o n. fault newer n ⊎ ((m : Meaning) × Keeps newer m × mergedFault o m buffer n)) (readFile older) _
+    (file-exactly older all₁) (keeps-exactly older all₁)
+    (λ o is. given-exactly (fault newer) (Keeps newer) (λ m. mergedFault o m buffer) (readFile newer) _ (file-exactly newer all₂) (keeps-exactly newer all₂)
     (λ m is. require-exactly KindClash 0 (not (kindsClash o m)) _ (clash-exactly (kindsClash o m)) (image-exactly (merge o m) buffer)))
 
 pub exactly : Exactly
@@ -169,7 +173,7 @@ exactly = record {
   find = find-exactly;
   readBlock = λ image key t times values n all. after (readBlockResult image key t times values) _ (readBlock-exactly image key t times values all) n;
   readPoint = λ image key t n all. readPoint-exactly image key t all n;
-  write = λ roll buffer. after (writeResult roll buffer) _ (write-exactly roll buffer);
+  write = λ roll buffer n all. after (writeResult roll buffer) _ (write-exactly roll buffer all) n;
   unroll = λ image buffer n all. after (unrollResult image buffer) _ (unroll-exactly image buffer all) n;
   merge = λ older newer buffer n all₁ all₂. after (mergeResult older newer buffer) _ (merge-exactly older newer buffer all₁ all₂) n;
 }

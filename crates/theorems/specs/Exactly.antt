@@ -18,12 +18,14 @@ use Rattle.format.specs.Bytes.{AllBytes}
 use Rattle.format.specs.Meaning.{Point, Meaning, valueAt}
 use Rattle.format.specs.Block.{readBlock}
 use Rattle.format.specs.Index.{IndexKey}
-use Rattle.format.specs.File.{readIndex, readFile, blockOf}
+use Rattle.format.specs.File.{readIndex, blockOf}
 use Rattle.format.specs.Find.{findEntry}
-use Rattle.format.specs.Roll.{readRoll, writerRoll}
+use Rattle.format.specs.Roll.{writerRoll}
 use Rattle.format.specs.Writer.{writerImage}
 use Rattle.format.specs.Merge.{merge, kindsClash}
 use Rattle.format.specs.Acts.{checkAnswer, findAnswer, readBlockAnswer, readPointAnswer, writeAnswer, unrollAnswer, mergeAnswer}
+use Rattle.acceptance.specs.Files.{Keeps}
+use Rattle.acceptance.specs.Rolls.{KeepsRoll}
 use Rattle.theorems.specs.Finds.{HasKey, EntryFor}
 use Rattle.theorems.specs.Faults.{Unless, UnlessSome, nothing, blockFault, indexFault, fault}
 
@@ -57,12 +59,12 @@ imageFault m buffer = Unless (length (writerImage m) ≤ 1_048_576) 22 (Unless (
 
 -- "roll breaks its rules anywhere"
 abbrev pub writeFault : (roll buffer : List ℕ) → ℕ → Type 0
-writeFault roll buffer = UnlessSome (λ m. readRoll roll ≡ ok m) 20 (λ m. imageFault m buffer)
+writeFault roll buffer = UnlessSome (λ m. KeepsRoll roll m) 20 (λ m. imageFault m buffer)
 
 -- "unroll then 19"
 abbrev pub unrollFault : (image buffer : List ℕ) → ℕ → Type 0
 unrollFault image buffer n =
-    fault image n ⊎ ((m : Meaning) × (readFile image ≡ ok m) × Unless (length (writerRoll m) ≤ length buffer) 19 nothing n)
+    fault image n ⊎ ((m : Meaning) × Keeps image m × Unless (length (writerRoll m) ≤ length buffer) 19 nothing n)
 
 -- "merge: a key has two kinds"
 abbrev pub mergedFault : (older newer : Meaning) → (buffer : List ℕ) → ℕ → Type 0
@@ -72,7 +74,7 @@ mergedFault o m buffer = Unless (kindsClash o m ≡ false) 21 (imageFault (merge
 abbrev pub mergeFault : (older newer buffer : List ℕ) → ℕ → Type 0
 mergeFault older newer buffer n =
     fault older n
-    ⊎ ((o : Meaning) × (readFile older ≡ ok o) × (fault newer n ⊎ ((m : Meaning) × (readFile newer ≡ ok m) × mergedFault o m buffer n)))
+    ⊎ ((o : Meaning) × Keeps older o × (fault newer n ⊎ ((m : Meaning) × Keeps newer m × mergedFault o m buffer n)))
 
 -- Not met by an act that tells one fault by another's number, or a later fault before an earlier.
 pub record Exactly : Type 0 where
@@ -81,7 +83,7 @@ pub record Exactly : Type 0 where
   pub readBlock : (image key : List ℕ) (t : ℤ) (times values : List ℤ) (n : ℕ) → AllBytes image
       → (readBlockAnswer image key t times values ≡ refuses n) ↔ readBlockFault image key t times values n
   pub readPoint : (image key : List ℕ) (t : ℤ) (n : ℕ) → AllBytes image → (readPointAnswer image key t ≡ refuses n) ↔ readPointFault image key t n
-  pub write : (roll buffer : List ℕ) (n : ℕ) → (writeAnswer roll buffer ≡ refuses n) ↔ writeFault roll buffer n
+  pub write : (roll buffer : List ℕ) (n : ℕ) → AllBytes roll → (writeAnswer roll buffer ≡ refuses n) ↔ writeFault roll buffer n
   pub unroll : (image buffer : List ℕ) (n : ℕ) → AllBytes image → (unrollAnswer image buffer ≡ refuses n) ↔ unrollFault image buffer n
   pub merge : (older newer buffer : List ℕ) (n : ℕ) → AllBytes older → AllBytes newer
       → (mergeAnswer older newer buffer ≡ refuses n) ↔ mergeFault older newer buffer n
