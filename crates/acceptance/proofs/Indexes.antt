@@ -4,11 +4,13 @@
 --   index-below, index-read   an index that is read
 --   spans            blocks end to end, up to where the last ends
 --   good-laid        the rules of a key
+--   entries-inside   each entry's block lies in the image
 --   laid-read, keeps-index   an image keeps the rules exactly when its index is read
 use Prim.Native.Nat.{ℕ, _+_, _-_, _^_, _≤_, _<_}
 use mathlib.Core.Path.{_≡_, refl, ap, ap₂, sym, subst, _∙_}
 use mathlib.Core.Logic.{_↔_}
 use mathlib.Core.List.{List, [], _∷_, _++_, flatMap, append-assoc}
+use native.Mathlib.Nat.{le-trans}
 use native.Mathlib.Omega.{arith}
 use lib.ListN.{length, take, drop, getD, length-append, length-drop}
 use lib.Seq.{take-at, drop-at, length-take-le}
@@ -24,7 +26,7 @@ use Rattle.format.specs.Index.{blockSpan, IndexKey, readKeys}
 use Rattle.format.specs.File as file
 use Rattle.format.specs.File.{magic, version, footerPlace, indexStart, indexBytes, checkFrame, readIndex}
 use Rattle.format.proofs.AllBelow.{below-take, below-drop}
-use Rattle.format.proofs.Lists.{each-map, each-both}
+use Rattle.format.proofs.Lists.{each-map, each-both, each-flatMap}
 use Rattle.format.proofs.Orders.{fits-time}
 use Rattle.format.proofs.Results.{bind-ok}
 use Rattle.format.proofs.Readings.{FrameParts, frame-parts}
@@ -102,6 +104,11 @@ spans from X (e ∷ es) =
       λ ((is, ends), end). (is, rest .1 (ends, end)),
     )
 
+-- no block ends after the last
+ends-below : (from : ℕ) (es : List Entry) → Ends from es → Each (λ e. e .offset .0 + e .size ≤ endOf from es) es
+ends-below from [] ends = tt
+ends-below from (e ∷ es) ends = (omega (arith, ends .0, end-later (from + e .size) es), ends-below (from + e .size) es (ends .1))
+
 module _ (k : IndexKey) where
   laid-good : KeepsEntries k → GoodKey k
   laid-good h = record {
@@ -146,6 +153,19 @@ module _ (image : List ℕ) (keys : List IndexKey) where
       ap readIndex (k .bytes)
       ∙ laid-index (magic ++ (version ∷ (B ++ (I ++ bigBytes footerSize x)))) I x keys (frame-read B I most) (index-is B I (omega arith)) (start-is B I (omega arith))
       (keys-read x small (length I) x headerSize [] keys (omega arith) good (each-map laid-stated keys (k .entries)) (up-from keys good (k .ascending)) ends end)
+
+  -- each entry's block has its checksum and lies in the image
+  pub entries-inside : KeepsIndex image keys → Each (λ k. Each (λ e. (4 ≤ e .size) × (e .offset .0 + e .size ≤ length image)) (k .entries)) keys
+  entries-inside k =
+      let B = k .blocks in
+      let I = flatMap indexKeyBytes keys in
+      let (ends, end) = spans headerSize (headerSize + length B) (entriesOf keys) .0 (k .endToEnd) in
+      let most : endOf headerSize (entriesOf keys) ≤ length image = omega (arith, image-size B I, ap length (k .bytes)) in
+      each-both {R = λ i. Each (λ e. (4 ≤ e .size) × (e .offset .0 + e .size ≤ length image)) (i .entries)}
+      (λ i h below. each-both {R = λ e. (4 ≤ e .size) × (e .offset .0 + e .size ≤ length image)} (λ e g l. (g .size, l)) (i .entries) (h .entries) below)
+      keys (k .entries)
+      (each-flatMap (λ e. e .offset .0 + e .size ≤ length image) (λ i. i .entries) keys .0
+      (each-map (λ e l. le-trans l most) (entriesOf keys) (ends-below headerSize (entriesOf keys) ends)))
 
 -- ---- an index that is read is so laid
 

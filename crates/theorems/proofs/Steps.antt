@@ -3,7 +3,7 @@
 --   Exact r F            exactly where F holds of n
 --   ok-not, ok-exactly   a value is not refused
 --   require-exactly, require-exactly₂, some-exactly   a step and what follows it
---   given-exactly, bind-exactly, then-exactly   a step or what follows
+--   given-exactly, then-exactly   a step or what follows
 --   after, within        a last step that is not refused; a step within a step
 --   only-number          the number of a step that is refused in one way
 --   leb-exactly, eqb-exactly, both-exactly            tests that are rules
@@ -109,17 +109,12 @@ module _ {A B : Type 0} where
     ⊎-elim (λ y. ap refuses (refuses-path (h n .1 y))) (λ (y, given, g). refused-not (is y .0 given)),
   )
 
-  -- the same, by the value itself
-  pub bind-exactly : (F : ℕ → Type 0) (G : A → ℕ → Type 0) (a : Result A) (f : A → Result B) → Exact a F → ((x : A) → a ≡ ok x → Exact (f x) (G x))
-      → Exact (a >>= f) (λ n. F n ⊎ ((x : A) × (a ≡ ok x) × G x n))
-  bind-exactly F G a f h k = given-exactly F (λ x. a ≡ ok x) G a f h (λ x. (λ e. e, λ e. e)) k
-
   -- a step, or where it has no fault, what follows
-  pub then-exactly : (F G : ℕ → Type 0) (a : Result A) (f : A → Result B) → Exact a F → ((x : A) → Exact (f x) G)
+  pub then-exactly : (F G : ℕ → Type 0) (a : Result A) (f : A → Result B) → Exact a F → ((x : A) → a ≡ ok x → Exact (f x) G)
       → Exact (a >>= f) (λ n. F n ⊎ (((j : ℕ) → ¬ F j) × G n))
   then-exactly F G (ok x) f h k n = (
-    λ e. inr (λ j y. ok-not (h j .1 y), k x n .0 e),
-    ⊎-elim (λ y. ok-not (h n .1 y)) (λ (none, g). k x n .1 g),
+    λ e. inr (λ j y. ok-not (h j .1 y), k x refl n .0 e),
+    ⊎-elim (λ y. ok-not (h n .1 y)) (λ (none, g). k x refl n .1 g),
   )
   then-exactly F G (refused r place) f h k n = (
     λ e. inl (h n .0 (ap refuses (refuses-path e))),
