@@ -16,7 +16,6 @@ use lib.ListN.{length, take, drop, getD, length-append, length-drop}
 use lib.Seq.{take-at, drop-at, length-take-le}
 use lib.Dec.{lit<}
 use borrow.Author.Tests.{le-leb}
-use Rattle.format.specs.declared.Kind.{Kind}
 use Rattle.format.specs.declared.Entry.{Entry}
 use Rattle.format.specs.Limits.{imageLeast, imageMost, headerSize, footerSize}
 use Rattle.format.specs.Choice.{Each}
@@ -27,11 +26,10 @@ use Rattle.format.specs.File as file
 use Rattle.format.specs.File.{magic, version, footerPlace, indexStart, indexBytes, checkFrame, readIndex}
 use Rattle.format.proofs.AllBelow.{below-take, below-drop}
 use Rattle.format.proofs.Lists.{each-map, each-both, each-flatMap}
-use Rattle.format.proofs.Orders.{fits-time}
 use Rattle.format.proofs.Results.{bind-ok}
 use Rattle.format.proofs.Readings.{FrameParts, frame-parts}
 use Rattle.numbers.proofs.BigEndian.{bigBytes-length, bigEndian-bigBytes}
-use Rattle.acceptance.specs.Indexes.{KeepsEntry, KeepsEntries, SpansTo, indexKeyBytes, KeepsIndex}
+use Rattle.acceptance.specs.Indexes.{KeepsEntries, SpansTo, indexKeyBytes, KeepsIndex}
 use Rattle.acceptance.proofs.Times.{signed-mag, mag-signed}
 use Rattle.acceptance.proofs.Entries.{GoodEntry, Stated, Ends, endOf, rises, end-later}
 use Rattle.acceptance.proofs.Keys.{GoodKey, StatedKey, entriesOf, up-from, from-up, keys-read}

@@ -5,12 +5,11 @@
 --   series-to, series-from   a key with its points
 --   rolls-to, rolls-from     all series
 --   keeps-roll      the roll
-use Prim.Native.Nat.{ℕ, _^_, _≤_, _<_}
+use Prim.Native.Nat.{ℕ, _^_, _<_}
 use mathlib.Core.Path.{_≡_, refl, sym, ap, subst, _∙_}
 use mathlib.Core.Logic.{_↔_}
 use mathlib.Core.Bool.{true, not, _&&_}
 use mathlib.Core.List.{List, [], _∷_, _++_, flatMap, append-assoc}
-use native.Mathlib.Omega.{arith}
 use lib.ListN.{length}
 use lib.Seq.{take-at}
 use lib.IntN.{ℤ, _-ℤ_, natAbs}
