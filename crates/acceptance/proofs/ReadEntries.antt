@@ -20,12 +20,12 @@ use Rattle.format.specs.Refusals.{ok}
 use Rattle.format.specs.Bytes.{bigEndian, AllBytes}
 use Rattle.format.specs.Index.{blockSpan, entrySize, entryFrom, aboveMax, checkEntry, readEntries}
 use Rattle.format.proofs.AllBelow.{below-drop}
-use Rattle.numbers.proofs.TwosComplement.{pattern-signed}
+use Rattle.numbers.proofs.TwosComplement.{signed-below, pattern-signed}
 use Rattle.format.specs.Choice.{Each}
 use Rattle.format.proofs.Tests.{both-left, both-right}
 use Rattle.format.proofs.Results.{bind-ok, require-ok, test-ok}
 use Rattle.acceptance.proofs.Parts.{part-below, part-again}
-use Rattle.acceptance.proofs.Entries.{GoodEntry, Rises, Ends, endOf, entryOut}
+use Rattle.acceptance.proofs.Entries.{GoodEntry, Stated, Rises, Ends, endOf, entryOut}
 
 module _ (kind : Kind) (bs : List ℕ) (all : AllBytes bs) (inside : 28 ≤ length bs) where
   entry-again : entryOut (entryFrom kind bs) ≡ take 28 bs
@@ -47,6 +47,7 @@ pub record EntriesRead (kind : Kind) (x ended : ℕ) (before : Option ℤ) (k : 
   pub count : length es ≡ k
   pub bytes : AllBytes bs → take (k * 28) bs ≡ flatMap entryOut es
   pub good : Each (GoodEntry kind) es
+  pub stated : AllBytes bs → Each Stated es
   pub rise : Rises before es
   pub ends : Ends ended es
   pub end : last ≡ endOf ended es
@@ -73,6 +74,13 @@ module _ (kind : Kind) (x : ℕ) where
           record { same = refl; size = leb-true 4 (e .size) (both-right (eqb (e .offset .0) ended) (leb 4 (e .size)) c) },
           r .good,
         );
+        stated = λ all. (
+          record {
+            min = signed-below (bigEndian (take 8 bs)) (part-below bs all 0 8 (omega arith));
+            max = signed-below (bigEndian (take 8 (drop 8 bs))) (part-below bs all 8 8 (omega arith));
+          },
+          r .stated (below-drop 256 28 bs all),
+        );
         rise = (
           both-left (leZ (e .min) (e .max)) (aboveMax before (e .min)) (a .0),
           both-right (leZ (e .min) (e .max)) (aboveMax before (e .min)) (a .0),
@@ -88,7 +96,7 @@ module _ (kind : Kind) (x : ℕ) where
   read-entries zero at ended before bs r inside e =
       let same : _≡_ {A = List Entry × ℕ} ([], ended) r = cc in
       subst (λ (q : List Entry × ℕ). EntriesRead kind x ended before 0 bs (q .0) (q .1)) same
-      (record { count = refl; bytes = λ all. refl; good = tt; rise = tt; ends = tt; end = refl })
+      (record { count = refl; bytes = λ all. refl; good = tt; stated = λ all. tt; rise = tt; ends = tt; end = refl })
   read-entries (suc k) at ended before bs r inside e =
       let f = entryFrom kind bs in
       let a = bind-ok (checkEntry (blockSpan ended x) at before f) _ r e in

@@ -12,7 +12,6 @@ use lib.Seq.{length-take-le, take-add, drop-cons}
 use lib.Dec.{eqb}
 use borrow.Author.Tests.{eqb-true}
 use Rattle.format.specs.declared.Refusal.the-variants.{BlockPlace}
-use Rattle.format.specs.Limits.{countMost}
 use Rattle.format.specs.Choice.{ascendsFrom, Each}
 use Rattle.format.specs.Refusals.{ok}
 use Rattle.format.specs.Bytes.{AllBytes}
@@ -26,7 +25,7 @@ use Rattle.acceptance.proofs.Parts.{part-below, part-again}
 use Rattle.acceptance.proofs.Entries.{Ends, endOf, ends-join, end-append}
 use Rattle.format.proofs.Readings.{KeyParts, key-parts}
 use Rattle.acceptance.proofs.ReadEntries.{EntriesRead, read-entries}
-use Rattle.acceptance.proofs.Keys.{GoodKey, keyOut, entriesOf}
+use Rattle.acceptance.proofs.Keys.{GoodKey, StatedKey, keyOut, entriesOf}
 
 -- the first bytes, in two parts
 parts : (k i j : ℕ) (bs : List ℕ) → k ≡ i + j → take k bs ≡ take i bs ++ take j (drop i bs)
@@ -38,7 +37,7 @@ record KeyRead (x ended : ℕ) (before bs : List ℕ) (k : IndexKey) (last : ℕ
   pub above : keyBefore before (k .key) ≡ true
   pub ends : Ends ended (k .entries)
   pub end : last ≡ endOf ended (k .entries)
-  pub few : AllBytes bs → length (k .entries) ≤ countMost
+  pub stated : AllBytes bs → StatedKey k
   pub bytes : AllBytes bs → take (keyExtent bs) bs ≡ keyOut k
 
 module _ (x at ended : ℕ) (before bs : List ℕ) (k : IndexKey) (last : ℕ) (p : KeyParts (blockSpan ended x) at before bs k last) where
@@ -79,14 +78,17 @@ module _ (x at ended : ℕ) (before bs : List ℕ) (k : IndexKey) (last : ℕ) (
     above = rw (p .key-is) (p .above);
     ends = entries .ends;
     end = entries .end;
-    few = λ all. omega (arith, entries .count, p .inside, part-below bs all (n + 3) 2 (omega (arith, p .inside)));
+    stated = λ all. record {
+      count = omega (arith, entries .count, p .inside, part-below bs all (n + 3) 2 (omega (arith, p .inside)));
+      times = entries .stated (below-drop 256 (keyHeadSize n) bs all);
+    };
     bytes = key-laid;
   }
 
 -- what keys that are read say of their bytes
 pub record KeysRead (x ended : ℕ) (before bs : List ℕ) (ks : List IndexKey) : Type 0 where
   pub bytes : AllBytes bs → bs ≡ flatMap keyOut ks
-  pub few : AllBytes bs → Each (λ k. length (k .entries) ≤ countMost) ks
+  pub stated : AllBytes bs → Each StatedKey ks
   pub good : Each GoodKey ks
   pub up : ascendsFrom keyBefore before (map (λ k. k .key) ks) ≡ true
   pub ends : Ends ended (entriesOf ks)
@@ -98,7 +100,7 @@ no-keys x at ended before ks e =
     let a = require-ok (eqb ended x) BlockPlace at _ ks e in
     let same : [] ≡ ks = cc (a .1) in
     subst (λ (q : List IndexKey). KeysRead x ended before [] q) same
-    (record { bytes = λ all. refl; few = λ all. tt; good = tt; up = refl; ends = tt; end = eqb-true ended x (a .0) })
+    (record { bytes = λ all. refl; stated = λ all. tt; good = tt; up = refl; ends = tt; end = eqb-true ended x (a .0) })
 
 -- the first key, and those after it
 key-more : (x ended : ℕ) (before bs : List ℕ) (k : IndexKey) (last : ℕ) (ks : List IndexKey) → KeyRead x ended before bs k last
@@ -108,7 +110,7 @@ key-more x ended before bs k last ks r s =
     record {
       bytes = λ all.
           sym (take-append-drop (keyExtent bs) bs) ∙ ap₂ (λ (xs ys : List ℕ). xs ++ ys) (r .bytes all) (s .bytes (below-drop 256 (keyExtent bs) bs all));
-      few = λ all. (r .few all, s .few (below-drop 256 (keyExtent bs) bs all));
+      stated = λ all. (r .stated all, s .stated (below-drop 256 (keyExtent bs) bs all));
       good = (r .good, s .good);
       up = both-true (r .above) (s .up);
       ends = ends-join ended (k .entries) (entriesOf ks) (r .ends) (subst (λ (i : ℕ). Ends i (entriesOf ks)) (r .end) (s .ends));

@@ -1,6 +1,5 @@
 -- The chunks into which our writer cuts a series.
---   Sized ps        1 to 1,000 points
---   chunks-sized    each chunk has so many
+--   chunks-sized    each chunk has 1 to 1,000 points
 --   chunks-joined   joined they are the series
 --   chunks-some     a series with a point has a chunk
 use Prim.Native.Nat.{ℕ, zero, suc, _≤_}
@@ -12,9 +11,7 @@ use Rattle.format.specs.Limits.{writerBlockMost}
 use Rattle.format.specs.Choice.{Each}
 use Rattle.format.specs.Meaning.{Point}
 use Rattle.format.specs.Writer.{chunksFrom, chunks}
-
-abbrev pub Sized : List Point → Type 0
-Sized ps = (1 ≤ length ps) × (length ps ≤ writerBlockMost)
+use Rattle.file_laws.specs.Bounds.{Sized}
 
 sized-from : (k : ℕ) (ps : List Point) → Each Sized (chunksFrom k ps)
 unfolding chunksFrom

@@ -30,8 +30,9 @@ use Rattle.numbers.proofs.Varints.{varint-length-least}
 use Rattle.section_laws.proofs.BlockLengths.{blockBytes-most}
 use Rattle.merging.proofs.Facts.{GoodSeries, facts}
 use Rattle.acceptance.proofs.Entries.{entry-size}
-use Rattle.acceptance.proofs.Layouts.{entryFor}
-use Rattle.file_laws.proofs.Chunks.{Sized, chunks-sized, chunks-joined}
+use Rattle.acceptance.specs.Files.{entryFor}
+use Rattle.file_laws.specs.Bounds.{Sized, Bounded}
+use Rattle.file_laws.proofs.Chunks.{chunks-sized, chunks-joined}
 use Rattle.file_laws.proofs.WriterBlocks.{blocksFor, blocks-count, blocks-entries}
 
 -- ---- a roll
@@ -143,7 +144,7 @@ all-most offset (s ∷ m) g =
       length-append (rollSeries s) (writerRoll m),
     )
 
-pub image-most : (m : Meaning) → wellFormed m ≡ true → length (writerImage m) ≤ length (writerRoll m) * 15 + 13
+pub image-most : (m : Meaning) → wellFormed m ≡ true → Bounded m
 unfolding writerImage
 image-most m good =
     let blocks = writerBlocks m in

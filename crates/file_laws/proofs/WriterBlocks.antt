@@ -40,7 +40,7 @@ use Rattle.acceptance.specs.Blocks.{Block, KeepsBlock}
 use Rattle.acceptance.specs.Files.{EndToEnd}
 use Rattle.acceptance.proofs.Times.{read-times}
 use Rattle.acceptance.proofs.Integers.{read-integers}
-use Rattle.file_laws.proofs.Chunks.{Sized}
+use Rattle.file_laws.specs.Bounds.{Sized}
 use Rattle.file_laws.proofs.Spans.{Spans, pointsOf, each-ascends}
 
 -- ---- what is laid, and where

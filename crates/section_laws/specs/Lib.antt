@@ -1,5 +1,7 @@
 -- Definitions that the sections share.
 --   Choices   what our writer chooses by
 --   Cells     the lent cells after reading
+--   Packing   packing for any width
 pub mod Choices
 pub mod Cells
+pub mod Packing

@@ -127,11 +127,11 @@ module _ (image : List ℕ) (all : AllBytes image) where
   blocks-exactly (e ∷ es) =
       then-exactly (blockFault e (blockOf image e)) (blocksFault image es) (readBlock e (blockOf image e)) _
       (block-exactly e (blockOf image e) (below-take 256 (lit< tt) (e .size) (drop (e .offset .0) image) (below-drop 256 (e .offset .0) image all)))
-      (λ ps. after (readBlocks image es) _ (blocks-exactly es))
+      (λ ps is. after (readBlocks image es) _ (blocks-exactly es))
 
   pub series-exactly : (ks : List IndexKey) → Exact (readSeries image ks) (seriesFault image ks)
   unfolding readSeries
   series-exactly [] = ok-exactly []
   series-exactly (k ∷ ks) =
       then-exactly (blocksFault image (k .entries)) (seriesFault image ks) (readBlocks image (k .entries)) _ (blocks-exactly (k .entries))
-      (λ ps. after (readSeries image ks) _ (series-exactly ks))
+      (λ ps is. after (readSeries image ks) _ (series-exactly ks))

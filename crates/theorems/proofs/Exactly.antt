@@ -1,17 +1,19 @@
 -- Each act refuses exactly by its faults: it is a chain of steps, each with its own.
-use Prim.Native.Nat.{ℕ, _≤_}
+use Prim.Native.Nat.{ℕ, _+_, _≤_}
 use mathlib.Core.Path.{_≡_, refl, sym, ap, _∙_}
 use mathlib.Core.Logic.{_↔_, _⊎_, inl, inr, ⊎-elim}
 use mathlib.Core.Bool.{Bool, true, false, not, _&&_}
 use mathlib.Core.List.{List, [], _∷_}
 use mathlib.Core.Option.{Option, none, some}
-use lib.ListN.{length, drop}
+use native.Mathlib.Omega.{arith}
+use lib.ListN.{length, drop, length-drop}
+use lib.Seq.{length-take-le}
 use lib.IntN.{ℤ}
 use lib.Dec.{leb, lit<}
 use Rattle.format.specs.declared.Entry.{Entry}
 use Rattle.format.specs.declared.Refusal.the-variants.{NoSuchKey, NoEntry, ShortBuffer, BadRoll, KindClash, ImageTooLong, NoPoint}
 use Rattle.format.specs.Limits.{imageMost}
-use Rattle.format.specs.Choice.{sameList}
+use Rattle.format.specs.Choice.{sameList, Each}
 use Rattle.format.specs.Refusals.{Result, ok, refused, _>>=_, refuses, answerOf}
 use Rattle.format.specs.Bytes.{AllBytes}
 use Rattle.format.specs.Meaning.{Point, Meaning, valueAt}
@@ -24,11 +26,20 @@ use Rattle.format.specs.Writer.{writerImage}
 use Rattle.format.specs.Merge.{merge, kindsClash}
 use Rattle.format.specs.Acts.{checkResult, findAnswer, readBlockResult, readPointResult, fitted, imageResult, writeResult, unrollResult, mergeResult}
 use Rattle.format.proofs.AllBelow.{below-take, below-drop}
-use Rattle.format.proofs.Results.{ok-path, refused-not, Only, only-choice}
+use Rattle.format.proofs.Answers.{answer-ok}
+use Rattle.format.proofs.Results.{bind-ok, ok-path, refused-not, Only, only-choice}
 use Rattle.roll.proofs.Rolls.{roll-refused}
+use Rattle.acceptance.specs.Files.{Keeps}
+use Rattle.acceptance.specs.Indexes.{KeepsIndex}
+use Rattle.acceptance.specs.Rolls.{KeepsRoll}
+use Rattle.acceptance.proofs.Blocks.{blockFor, block-read, read-block}
+use Rattle.acceptance.proofs.Indexes.{entries-inside, laid-read, keeps-index}
+use Rattle.acceptance.proofs.Accepted.{keeps-exactly}
 use Rattle.theorems.specs.Faults.{Unless, nothing, blockFault, indexFault, seriesFault, fault}
-use Rattle.theorems.specs.Exactly.{searchFault, findFault, oneBlockFault, readBlockFault, readPointFault, imageFault, writeFault, unrollFault, mergedFault, mergeFault, Exactly}
-use Rattle.theorems.proofs.Steps.{Exact, Refuses, ok-exactly, leb-exactly, both-exactly, require-exactly, some-exactly, bind-exactly, after, within, only-number}
+use Rattle.theorems.specs.Exactly.{searchFault, findFault, Covering, BlockHolds, oneBlockFault, readBlockFault, readPointFault, imageFault, writeFault, unrollFault, mergedFault, mergeFault, Exactly}
+use Rattle.theorems.proofs.Steps.{Exact, Refuses, ok-exactly, leb-exactly, both-exactly, require-exactly, some-exactly, given-exactly, after, within, only-number}
+use Rattle.theorems.proofs.Members.{each-mem}
+use Rattle.theorems.proofs.Ours.{roll-reads, reads-roll}
 use Rattle.theorems.proofs.IndexFaults.{index-exactly}
 use Rattle.theorems.proofs.BlockFaults.{block-exactly, series-exactly}
 use Rattle.theorems.proofs.Searches.{finds}
@@ -38,7 +49,8 @@ use Rattle.theorems.proofs.Searches.{finds}
 file-exactly : (image : List ℕ) → AllBytes image → Exact (readFile image) (fault image)
 unfolding readFile
 file-exactly image all =
-    bind-exactly (indexFault image) (seriesFault image) (readIndex image) _ (index-exactly image) (λ keys is. series-exactly image all keys)
+    given-exactly (indexFault image) (KeepsIndex image) (seriesFault image) (readIndex image) _ (index-exactly image) (λ keys. keeps-index image keys all)
+    (λ keys is. series-exactly image all keys)
 
 check-exactly : (image : List ℕ) → AllBytes image → Exact (checkResult image) (fault image)
 unfolding checkResult
@@ -82,13 +94,36 @@ search-exactly image key t keys is n =
           (λ (e, found, never). absurd never) rest),
     )
 
-find-exactly : (image key : List ℕ) (t : ℤ) → Exact (findEntry image key t) (findFault image key t)
+find-exactly : (image key : List ℕ) (t : ℤ) → AllBytes image → Exact (findEntry image key t) (findFault image key t)
 unfolding findEntry
-find-exactly image key t =
-    bind-exactly (indexFault image) (λ keys. searchFault keys key t) (readIndex image) _ (index-exactly image)
+find-exactly image key t all =
+    given-exactly (indexFault image) (KeepsIndex image) (λ keys. searchFault keys key t) (readIndex image) _ (index-exactly image) (λ keys. keeps-index image keys all)
     (λ keys is. search-exactly image key t keys is)
 
 -- ---- both reads
+
+module _ (image key : List ℕ) (t : ℤ) (all : AllBytes image) where
+  covering-found : (e : Entry) → Covering image key t e ↔ (findEntry image key t ≡ ok e)
+  unfolding findEntry
+  covering-found e = (
+    λ (keys, k, f). answer-ok (findEntry image key t) e (finds image keys (laid-read image keys k) .found key t e .1 f),
+    λ found.
+        let (keys, is, rest) = bind-ok (readIndex image) _ e found in
+        (keys, keeps-index image keys all .1 is, finds image keys is .found key t e .0 (ap answerOf found)),
+  )
+
+  -- the bytes of a block, which lie in the image
+  block-bytes : (e : Entry) → AllBytes (blockOf image e)
+  block-bytes e = below-take 256 (lit< tt) (e .size) (drop (e .offset .0) image) (below-drop 256 (e .offset .0) image all)
+
+  holds-read : (e : Entry) → Covering image key t e → (ps : List Point) → BlockHolds image e ps ↔ (readBlock e (blockOf image e) ≡ ok ps)
+  holds-read e (keys, k, f) ps =
+      let inside = each-mem (λ e. (4 ≤ e .size) × (e .offset .0 + e .size ≤ length image)) (f .holder .entries) e
+      (each-mem (λ k. Each (λ e. (4 ≤ e .size) × (e .offset .0 + e .size ≤ length image)) (k .entries)) keys (f .holder) (entries-inside image keys k) (f .listed)) (f .entry) in
+      let size : length (blockOf image e) ≡ e .size = length-take-le (e .size) (drop (e .offset .0) image) (omega (arith, inside .1, length-drop (e .offset .0) image)) in (
+        λ h. block-read e (blockFor e (blockOf image e) ps) h refl refl (block-bytes e) (omega (arith, inside .1, k .most)),
+        λ read. read-block e (blockOf image e) ps (block-bytes e) (omega (arith, inside .0)) (sym size) read,
+      )
 
 -- the block of an entry, and what follows with its points
 one-block : {B : Type 0} (image key : List ℕ) (t : ℤ) (g : Entry × List Point → Result B) (later : List Point → ℕ → Type 0) → AllBytes image
@@ -96,12 +131,12 @@ one-block : {B : Type 0} (image key : List ℕ) (t : ℤ) (g : Entry × List Poi
 unfolding findBlock
 one-block image key t g later all k =
     within (findEntry image key t) _ g
-    (bind-exactly (findFault image key t)
-    (λ e n. blockFault e (blockOf image e) n ⊎ ((ps : List Point) × (readBlock e (blockOf image e) ≡ ok ps) × later ps n))
-    (findEntry image key t) _ (find-exactly image key t)
+    (given-exactly (findFault image key t) (Covering image key t)
+    (λ e n. blockFault e (blockOf image e) n ⊎ ((ps : List Point) × BlockHolds image e ps × later ps n))
+    (findEntry image key t) _ (find-exactly image key t all) (covering-found image key t all)
     (λ e is. within (readBlock e (blockOf image e)) (λ ps. ok (e, ps)) g
-    (bind-exactly (blockFault e (blockOf image e)) later (readBlock e (blockOf image e)) (λ ps. g (e, ps))
-    (block-exactly e (blockOf image e) (below-take 256 (lit< tt) (e .size) (drop (e .offset .0) image) (below-drop 256 (e .offset .0) image all)))
+    (given-exactly (blockFault e (blockOf image e)) (BlockHolds image e) later (readBlock e (blockOf image e)) (λ ps. g (e, ps))
+    (block-exactly e (blockOf image e) (block-bytes image key t all e)) (holds-read image key t all e (covering-found image key t all e .1 is))
     (λ ps read. k e ps))))
 
 readBlock-exactly : (image key : List ℕ) (t : ℤ) (times values : List ℤ) → AllBytes image
@@ -139,17 +174,17 @@ image-exactly m buffer =
     require-exactly ImageTooLong 0 (leb (length (writerImage m)) imageMost) _ (leb-exactly (length (writerImage m)) imageMost)
     (fitted-exactly buffer (writerImage m))
 
-write-exactly : (roll buffer : List ℕ) → Exact (writeResult roll buffer) (writeFault roll buffer)
+write-exactly : (roll buffer : List ℕ) → AllBytes roll → Exact (writeResult roll buffer) (writeFault roll buffer)
 unfolding writeResult
-write-exactly roll buffer =
-    some-exactly BadRoll (λ m. m) (λ m. readRoll roll ≡ ok m) (λ m. imageFault m buffer) (readRoll roll) _ (roll-refused roll)
-    (λ m r. r) (λ m r. (m, r, refl)) (λ m r. image-exactly m buffer)
+write-exactly roll buffer all =
+    some-exactly BadRoll (λ m. m) (KeepsRoll roll) (λ m. imageFault m buffer) (readRoll roll) _ (roll-refused roll)
+    (λ m r. reads-roll roll m all r .keeps) (λ m k. (m, roll-reads roll m (record { bytes = all; keeps = k }), refl)) (λ m r. image-exactly m buffer)
 
 unroll-exactly : (image buffer : List ℕ) → AllBytes image → Exact (unrollResult image buffer) (unrollFault image buffer)
 unfolding unrollResult
 unroll-exactly image buffer all =
-    bind-exactly (fault image) (λ m. Unless (length (writerRoll m) ≤ length buffer) 19 nothing) (readFile image) _ (file-exactly image all)
-    (λ m is. fitted-exactly buffer (writerRoll m))
+    given-exactly (fault image) (Keeps image) (λ m. Unless (length (writerRoll m) ≤ length buffer) 19 nothing) (readFile image) _ (file-exactly image all)
+    (keeps-exactly image all) (λ m is. fitted-exactly buffer (writerRoll m))
 
 clash-exactly : (c : Bool) → (not c ≡ true) ↔ (c ≡ false)
 clash-exactly true = (λ e. sym e, λ e. sym e)
@@ -158,18 +193,18 @@ clash-exactly false = (λ e. refl, λ e. refl)
 merge-exactly : (older newer buffer : List ℕ) → AllBytes older → AllBytes newer → Exact (mergeResult older newer buffer) (mergeFault older newer buffer)
 unfolding mergeResult
 merge-exactly older newer buffer all₁ all₂ =
-    bind-exactly (fault older) (λ o n. fault newer n ⊎ ((m : Meaning) × (readFile newer ≡ ok m) × mergedFault o m buffer n)) (readFile older) _
-    (file-exactly older all₁)
-    (λ o is. bind-exactly (fault newer) (λ m. mergedFault o m buffer) (readFile newer) _ (file-exactly newer all₂)
+    given-exactly (fault older) (Keeps older) (λ o n. fault newer n ⊎ ((m : Meaning) × Keeps newer m × mergedFault o m buffer n)) (readFile older) _
+    (file-exactly older all₁) (keeps-exactly older all₁)
+    (λ o is. given-exactly (fault newer) (Keeps newer) (λ m. mergedFault o m buffer) (readFile newer) _ (file-exactly newer all₂) (keeps-exactly newer all₂)
     (λ m is. require-exactly KindClash 0 (not (kindsClash o m)) _ (clash-exactly (kindsClash o m)) (image-exactly (merge o m) buffer)))
 
 pub exactly : Exactly
 exactly = record {
   check = λ image n all. check-exactly image all n;
-  find = find-exactly;
+  find = λ image key t n all. find-exactly image key t all n;
   readBlock = λ image key t times values n all. after (readBlockResult image key t times values) _ (readBlock-exactly image key t times values all) n;
   readPoint = λ image key t n all. readPoint-exactly image key t all n;
-  write = λ roll buffer. after (writeResult roll buffer) _ (write-exactly roll buffer);
+  write = λ roll buffer n all. after (writeResult roll buffer) _ (write-exactly roll buffer all) n;
   unroll = λ image buffer n all. after (unrollResult image buffer) _ (unroll-exactly image buffer all) n;
   merge = λ older newer buffer n all₁ all₂. after (mergeResult older newer buffer) _ (merge-exactly older newer buffer all₁ all₂) n;
 }

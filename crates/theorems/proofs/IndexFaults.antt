@@ -1,6 +1,6 @@
 -- The faults of a frame and of an index are what is refused of them, rule by rule.
 use Prim.Native.Nat.{ℕ, zero, suc, _+_, _*_}
-use mathlib.Core.Path.{_≡_, refl, ap, _∙_}
+use mathlib.Core.Path.{_≡_, refl, sym, ap, subst, _∙_}
 use mathlib.Core.Logic.{_↔_}
 use mathlib.Core.Bool.{Bool, true, _&&_}
 use mathlib.Core.List.{List, [], _∷_}
@@ -14,15 +14,17 @@ use Rattle.format.specs.declared.Entry.{Entry}
 use Rattle.format.specs.declared.Refusal.the-variants.{ImageLength, Magic, Version, IndexStart, EntryPastIndex, KeyLength, UnknownKind, NoBlocks, KeyOrder, TimeOrder, BlockPlace}
 use Rattle.format.specs.Limits.{imageLeast, imageMost, headerSize, keyMost}
 use Rattle.format.specs.Choice.{sameList}
-use Rattle.format.specs.Refusals.{Result, _>>=_}
+use Rattle.format.specs.Refusals.{Result, ok, _>>=_}
 use Rattle.format.specs.Kinds.{readKind}
 use Rattle.format.specs.KeyOrder.{keyFits, keyBefore}
 use Rattle.format.specs.Index.{BlockSpan, blockSpan, spanAfter, entrySize, keyHeadSize, lengthField, keyField, kindField, countField, entryFrom, aboveMax, checkEntry, readEntries, readKey, keyExtent, noKeys, readKeys}
 use Rattle.format.specs.File.{magic, version, footerPlace, indexStart, indexBytes, checkFrame, readIndex}
 use Rattle.format.proofs.KindBytes.{kind-back, kind-unique, only-kind}
 use Rattle.format.proofs.Orders.{sameList-refl, sameList-path}
-use Rattle.theorems.specs.Faults.{frameFault, entryFault, entriesFault, keyFault, endFault, keysFault, indexFault}
-use Rattle.theorems.proofs.Steps.{Exact, ok-exactly, leb-exactly, eqb-exactly, both-exactly, require-exactly, require-exactly₂, some-exactly, bind-exactly, after}
+use Rattle.format.proofs.Results.{bind-ok, ok-path}
+use Rattle.format.proofs.Readings.{key-parts}
+use Rattle.theorems.specs.Faults.{frameFault, entryFault, entriesFault, keyFault, endFault, spanPast, keysFault, indexFault}
+use Rattle.theorems.proofs.Steps.{Exact, ok-exactly, leb-exactly, eqb-exactly, both-exactly, require-exactly, require-exactly₂, some-exactly, then-exactly, after}
 
 same-exactly : (a b : List ℕ) → (sameList a b ≡ true) ↔ (a ≡ b)
 same-exactly a b = (sameList-path a b, λ e. ap (λ (c : List ℕ). sameList c b) e ∙ sameList-refl b)
@@ -89,17 +91,34 @@ key-exactly blocks at before bs =
 end-exactly : (blocks : BlockSpan) (at : ℕ) → Exact (noKeys blocks at) (endFault blocks)
 end-exactly blocks at = require-exactly BlockPlace at (eqb (blocks .next) (blocks .limit)) _ (eqb-exactly (blocks .next) (blocks .limit)) (ok-exactly _)
 
-keys-exactly : (k : ℕ) (blocks : BlockSpan) (at : ℕ) (before bs : List ℕ) → Exact (readKeys k blocks at before bs) (keysFault k blocks at before bs)
+-- where the blocks of entries that were read end
+span-past : (kind : Kind) (k : ℕ) (blocks : BlockSpan) (at : ℕ) (before : Option ℤ) (bs : List ℕ) (r : List Entry × ℕ) → readEntries kind k blocks at before bs ≡ ok r
+    → blockSpan (r .1) (blocks .limit) ≡ spanPast k blocks bs
+unfolding readEntries
+span-past kind zero blocks at before bs r e = let same : _≡_ {A = List Entry × ℕ} ([], blocks .next) r = ok-path e in ap (λ (q : List Entry × ℕ). blockSpan (q .1) (blocks .limit)) (sym same)
+span-past kind (suc k) blocks at before bs r e =
+    let f = entryFrom kind bs in
+    let (_, _, rest) = bind-ok (checkEntry blocks at before f) _ r e in
+    let (s, read, same) = bind-ok (readEntries kind k (spanAfter blocks (f .size)) (at + entrySize) (some (f .max)) (drop entrySize bs)) _ r rest in
+    ap (λ (q : List Entry × ℕ). blockSpan (q .1) (blocks .limit)) (sym (ok-path same))
+    ∙ span-past kind k (spanAfter blocks (f .size)) (at + entrySize) (some (f .max)) (drop entrySize bs) s read
+
+keys-exactly : (k : ℕ) (blocks : BlockSpan) (at : ℕ) (before bs : List ℕ) → Exact (readKeys k blocks at before bs) (keysFault k blocks before bs)
 unfolding readKeys
 keys-exactly zero blocks at before bs n = end-exactly blocks at n
 keys-exactly (suc k) blocks at before [] n = end-exactly blocks at n
 keys-exactly (suc k) blocks at before (b ∷ bs) n =
     let all = b ∷ bs in
-    bind-exactly (keyFault blocks before all)
-    (λ x. keysFault k (blockSpan (x .1) (blocks .limit)) (at + keyExtent all) (x .0 .key) (drop (keyExtent all) all))
-    (readKey blocks at before all) _ (key-exactly blocks at before all)
-    (λ x is. after (readKeys k (blockSpan (x .1) (blocks .limit)) (at + keyExtent all) (x .0 .key) (drop (keyExtent all) all)) _
-    (keys-exactly k (blockSpan (x .1) (blocks .limit)) (at + keyExtent all) (x .0 .key) (drop (keyExtent all) all)))
+    let rest = drop (keyExtent all) all in
+    let past = spanPast (countField all) blocks (drop (lengthField all + 5) all) in
+    then-exactly (keyFault blocks before all) (keysFault k past (keyField all) rest) (readKey blocks at before all) _ (key-exactly blocks at before all)
+    (λ x is.
+    let p = key-parts blocks at before all x is in
+    let span = span-past (x .0 .kind) (countField all) blocks (at + keyHeadSize (lengthField all)) none (drop (keyHeadSize (lengthField all)) all) (x .0 .entries, x .1) (p .entries) in
+    after (readKeys k (blockSpan (x .1) (blocks .limit)) (at + keyExtent all) (x .0 .key) rest) _
+    (subst (λ (key : List ℕ). Exact (readKeys k (blockSpan (x .1) (blocks .limit)) (at + keyExtent all) (x .0 .key) rest) (keysFault k past key rest)) (p .key-is)
+    (subst (λ (s : BlockSpan). Exact (readKeys k (blockSpan (x .1) (blocks .limit)) (at + keyExtent all) (x .0 .key) rest) (keysFault k s (x .0 .key) rest)) span
+    (keys-exactly k (blockSpan (x .1) (blocks .limit)) (at + keyExtent all) (x .0 .key) rest))))
     n
 
 pub index-exactly : (image : List ℕ) → Exact (readIndex image) (indexFault image)

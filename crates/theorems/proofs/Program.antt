@@ -18,13 +18,13 @@ use Rattle.format.specs.Roll.{readRoll}
 use Rattle.format.specs.Writer.{writerImage}
 use Rattle.format.specs.Acts.{imageResult, writeResult, decimalLine, programWrites, programResult, programOutput}
 use Rattle.format.proofs.Cases.{below-or}
-use Rattle.acceptance.proofs.Accepted.{keeps-exactly}
+use Rattle.acceptance.specs.Rolls.{KeepsRoll}
 use Rattle.file_laws.proofs.Sizes.{image-most}
 use Rattle.format.proofs.Results.{Only}
-use Rattle.roll.proofs.Rolls.{whole-read, roll-refused}
+use Rattle.roll.proofs.Rolls.{roll-refused}
 use Rattle.theorems.specs.Files.{Accepted, OurFile, UnrollGives}
 use Rattle.theorems.specs.Program.{line19, line20, line22, Tried, Program}
-use Rattle.theorems.proofs.Ours.{ours-accepted}
+use Rattle.theorems.proofs.Ours.{roll-reads, reads-roll, ours-accepted}
 use Rattle.theorems.proofs.Writes.{Outcome, long, short, given, outcome}
 use Rattle.theorems.proofs.RoundTrips.{round-trips}
 
@@ -94,12 +94,12 @@ said roll m h e = go (outcome m lent)
 -- a roll that fits its buffer has an image below the limit
 small : (roll : List ℕ) (m : Meaning) → Tried roll m → length (writerImage m) ≤ imageMost
 small roll m t =
-    let s = whole-read roll m (t .good .bytes) (t .good .reads) in
-    omega (arith, t .heard, image-most m (s .good), ap length (s .only))
+    let (is, good, counted) = round-trips .goodRoll roll m (t .good .bytes) .0 (t .good) in
+    omega (arith, t .heard, image-most m good, ap length is)
 
 module _ (roll : List ℕ) (m : Meaning) (t : Tried roll m) where
   is : Said roll m
-  is = said roll m (t .heard) (t .good .reads)
+  is = said roll m (t .heard) (roll-reads roll m (t .good))
 
   short-exactly : (programOutput roll ≡ line19) ↔ (programBuffer < length (writerImage m))
   short-exactly = (to is, from is)
@@ -133,7 +133,7 @@ module _ (roll : List ℕ) (m : Meaning) (t : Tried roll m) where
 
     ours : OurFile (programOutput roll) m
     ours = record {
-      ordered = whole-read roll m (t .good .bytes) (t .good .reads) .good;
+      ordered = round-trips .goodRoll roll m (t .good .bytes) .0 (t .good) .1;
       written = output;
       fits = subst (λ (i : List ℕ). length i ≤ imageMost) (sym output) (small roll m t);
     }
@@ -145,16 +145,19 @@ module _ (roll : List ℕ) (m : Meaning) (t : Tried roll m) where
 
 -- ---- any roll
 
-broken : (roll : List ℕ) → length roll ≤ programBuffer → (programOutput roll ≡ line20) ↔ ((m : Meaning) → readRoll roll ≢ ok m)
-broken roll h = (λ e m r. to m (said roll m h r) e, λ none. from (readRoll roll) refl (roll-refused roll) none)
+broken : (roll : List ℕ) → AllBytes roll → length roll ≤ programBuffer → (programOutput roll ≡ line20) ↔ ((m : Meaning) → ¬ KeepsRoll roll m)
+broken roll bytes h = (
+  λ e m k. to m (said roll m h (roll-reads roll m (record { bytes = bytes; keeps = k }))) e,
+  λ none. from (readRoll roll) refl (roll-refused roll) none,
+)
   where
     to : (m : Meaning) → Said roll m → programOutput roll ≡ line20 → ⊥
     to m (tooLong over f) e = differ {xs = line22} {ys = line20} 1 (λ z. omega arith) (sym f ∙ e)
     to m (noRoom over f) e = differ {xs = line19} {ys = line20} 0 (λ z. omega arith) (sym f ∙ e)
     to m (written fits f) e = image-not m line20 (omega arith) (sym f ∙ e)
 
-    from : (r : Result Meaning) → readRoll roll ≡ r → Only BadRoll r → ((m : Meaning) → readRoll roll ≢ ok m) → programOutput roll ≡ line20
-    from (ok m) e f none = absurd (none m e)
+    from : (r : Result Meaning) → readRoll roll ≡ r → Only BadRoll r → ((m : Meaning) → ¬ KeepsRoll roll m) → programOutput roll ≡ line20
+    from (ok m) e f none = absurd (none m (reads-roll roll m bytes e .keeps))
     from (refused r place) e f none = refused-roll roll place h (e ∙ ap (λ q. refused q place) f)
 
 -- 22 is never told
@@ -170,7 +173,7 @@ never22 roll bytes e = ⊎-elim longer heard (below-or programBuffer (length rol
     good m t (written fits f) = image-not m line22 (omega arith) (sym f ∙ e)
 
     read : length roll ≤ programBuffer → (r : Result Meaning) → readRoll roll ≡ r → Only BadRoll r → ⊥
-    read h (ok m) g f = good m (record { good = record { bytes = bytes; reads = g }; heard = h }) (said roll m h g)
+    read h (ok m) g f = good m (record { good = reads-roll roll m bytes g; heard = h }) (said roll m h g)
     read h (refused r place) g f =
         differ {xs = line20} {ys = line22} 1 (λ z. omega arith) (sym (refused-roll roll place h (g ∙ ap (λ q. refused q place) f)) ∙ e)
 
@@ -180,7 +183,7 @@ never22 roll bytes e = ⊎-elim longer heard (below-or programBuffer (length rol
 -- an accepted file begins with 16 hex
 apart : (image : List ℕ) (m : Meaning) (number : ℕ) → Accepted image m → take 1 image ≢ take 1 (decimalLine number)
 apart image m number a e =
-    let first = ap (λ (xs : List ℕ). getD xs 0 0) (keeps-exactly image (a .bytes) m .1 (a .reads) .bytes) in
+    let first = ap (λ (xs : List ℕ). getD xs 0 0) (a .keeps .bytes) in
     let same = ap (λ (xs : List ℕ). getD xs 0 0) e in
     omega (arith, digit-first number, getD-take 1 image 0 0 (lit< tt), getD-take 1 (decimalLine number) 0 0 (lit< tt))
 

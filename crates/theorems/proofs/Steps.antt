@@ -3,7 +3,7 @@
 --   Exact r F            exactly where F holds of n
 --   ok-not, ok-exactly   a value is not refused
 --   require-exactly, require-exactly₂, some-exactly   a step and what follows it
---   bind-exactly, then-exactly   a step or what follows
+--   given-exactly, then-exactly   a step or what follows
 --   after, within        a last step that is not refused; a step within a step
 --   only-number          the number of a step that is refused in one way
 --   leb-exactly, eqb-exactly, both-exactly            tests that are rules
@@ -97,24 +97,24 @@ module _ {A B C : Type 0} (q : Refusal) (part : A → B) (Keeps : B → Type 0) 
   )
 
 module _ {A B : Type 0} where
-  -- a step, or where it gave an x, what follows
-  pub bind-exactly : (F : ℕ → Type 0) (G : A → ℕ → Type 0) (a : Result A) (f : A → Result B) → Exact a F → ((x : A) → a ≡ ok x → Exact (f x) (G x))
-      → Exact (a >>= f) (λ n. F n ⊎ ((x : A) × (a ≡ ok x) × G x n))
-  bind-exactly F G (ok x) f h k n = (
-    λ e. inr (x, refl, k x refl n .0 e),
-    ⊎-elim (λ y. ok-not (h n .1 y)) (λ (y, is, g). k x refl n .1 (subst (λ (z : A). G z n) (sym (ok-path is)) g)),
+  -- a step, or where it gave an x, as a relation says, what follows
+  pub given-exactly : (F : ℕ → Type 0) (Given : A → Type 0) (G : A → ℕ → Type 0) (a : Result A) (f : A → Result B) → Exact a F
+      → ((x : A) → Given x ↔ (a ≡ ok x)) → ((x : A) → a ≡ ok x → Exact (f x) (G x)) → Exact (a >>= f) (λ n. F n ⊎ ((x : A) × Given x × G x n))
+  given-exactly F Given G (ok x) f h is k n = (
+    λ e. inr (x, is x .1 refl, k x refl n .0 e),
+    ⊎-elim (λ y. ok-not (h n .1 y)) (λ (y, given, g). k x refl n .1 (subst (λ (z : A). G z n) (sym (ok-path (is y .0 given))) g)),
   )
-  bind-exactly F G (refused r place) f h k n = (
+  given-exactly F Given G (refused r place) f h is k n = (
     λ e. inl (h n .0 (ap refuses (refuses-path e))),
-    ⊎-elim (λ y. ap refuses (refuses-path (h n .1 y))) (λ (y, is, g). refused-not is),
+    ⊎-elim (λ y. ap refuses (refuses-path (h n .1 y))) (λ (y, given, g). refused-not (is y .0 given)),
   )
 
   -- a step, or where it has no fault, what follows
-  pub then-exactly : (F G : ℕ → Type 0) (a : Result A) (f : A → Result B) → Exact a F → ((x : A) → Exact (f x) G)
+  pub then-exactly : (F G : ℕ → Type 0) (a : Result A) (f : A → Result B) → Exact a F → ((x : A) → a ≡ ok x → Exact (f x) G)
       → Exact (a >>= f) (λ n. F n ⊎ (((j : ℕ) → ¬ F j) × G n))
   then-exactly F G (ok x) f h k n = (
-    λ e. inr (λ j y. ok-not (h j .1 y), k x n .0 e),
-    ⊎-elim (λ y. ok-not (h n .1 y)) (λ (none, g). k x n .1 g),
+    λ e. inr (λ j y. ok-not (h j .1 y), k x refl n .0 e),
+    ⊎-elim (λ y. ok-not (h n .1 y)) (λ (none, g). k x refl n .1 g),
   )
   then-exactly F G (refused r place) f h k n = (
     λ e. inl (h n .0 (ap refuses (refuses-path e))),

@@ -2,7 +2,7 @@
 -- order, as rules that are kept or broken.
 --   Unless, UnlessSome   a rule: it is broken, and that is refused; or it is kept, and what follows is judged
 --   frameFault           1 to 4
---   entryFault, entriesFault, keyFault, keysFault   5 to 11
+--   entryFault, entriesFault, keyFault, spanPast, keysFault   5 to 11
 --   endsFault, valuesFault, timesFault, bodyFault, blockFault   12 to 16, of a block
 --   blocksFault, seriesFault   the first block's that has one
 --   indexFault, fault    of an image: 1 to 11, and 1 to 16
@@ -19,16 +19,16 @@ use lib.Signed.{leZ}
 use Rattle.format.specs.declared.Kind.{Kind}
 use Rattle.format.specs.declared.Entry.{Entry}
 use Rattle.format.specs.Choice.{if_then_else_, isEmpty}
-use Rattle.format.specs.Refusals.{ok}
 use Rattle.format.specs.Bytes.{bigEndian}
 use Rattle.format.specs.Varint.{varint}
 use Rattle.format.specs.Crc32.{crc32}
 use Rattle.format.specs.Kinds.{kindByte}
 use Rattle.format.specs.KeyOrder.{keyBefore}
 use Rattle.format.specs.Block.{pointsFrom, firstTime, lastTime}
-use Rattle.format.specs.Index.{IndexKey, BlockSpan, blockSpan, spanAfter, lengthField, keyField, kindField, countField, entryFrom, aboveMax, readKey, keyExtent}
-use Rattle.format.specs.File.{indexStart, indexBytes, readIndex, blockOf}
+use Rattle.format.specs.Index.{IndexKey, BlockSpan, blockSpan, spanAfter, lengthField, keyField, kindField, countField, entryFrom, aboveMax}
+use Rattle.format.specs.File.{indexStart, indexBytes, blockOf}
 use Rattle.acceptance.specs.Sections.{TimesSection, ValuesSection}
+use Rattle.acceptance.specs.Indexes.{KeepsIndex}
 
 -- the rule is broken, and the number is its own; or it is kept, and the number is of what follows
 abbrev pub Unless : (kept : Type 0) → (number : ℕ) → (later : ℕ → Type 0) → ℕ → Type 0
@@ -82,13 +82,18 @@ keyFault blocks before bs =
 abbrev pub endFault : BlockSpan → ℕ → Type 0
 endFault blocks = Unless (blocks .next ≡ blocks .limit) 11 nothing
 
--- all keys, k at most: the key at the front, or where that is good, what follows it and where its last block ended
-abbrev pub keysFault : (k : ℕ) → BlockSpan → (at : ℕ) → (before : List ℕ) → List ℕ → ℕ → Type 0
-keysFault zero blocks at before bs n = endFault blocks n
-keysFault (suc k) blocks at before bs n =
+-- where the blocks still to come may lie after those of k block entries: each ends by its size, the last 4 of its 28 bytes
+abbrev pub spanPast : (k : ℕ) → BlockSpan → List ℕ → BlockSpan
+spanPast zero blocks bs = blocks
+spanPast (suc k) blocks bs = spanPast k (spanAfter blocks (bigEndian (take 4 (drop 24 bs)))) (drop 28 bs)
+
+-- all keys, k at most: the key at the front, or where that has no fault, what follows it
+abbrev pub keysFault : (k : ℕ) → BlockSpan → (before : List ℕ) → List ℕ → ℕ → Type 0
+keysFault zero blocks before bs n = endFault blocks n
+keysFault (suc k) blocks before bs n =
     let later : Type 0 = keyFault blocks before bs n
-    ⊎ ((good : IndexKey × ℕ) × (readKey blocks at before bs ≡ ok good)
-    × keysFault k (blockSpan (good .1) (blocks .limit)) (at + keyExtent bs) (good .0 .key) (drop (keyExtent bs) bs) n)
+    ⊎ (((j : ℕ) → ¬ keyFault blocks before bs j)
+    × keysFault k (spanPast (countField bs) blocks (drop (lengthField bs + 5) bs)) (keyField bs) (drop (lengthField bs + 5 + countField bs * 28) bs) n)
     in
     if isEmpty bs then endFault blocks n else later
 
@@ -135,8 +140,8 @@ seriesFault image (k ∷ ks) n =
 -- 1 to 11
 abbrev pub indexFault : (image : List ℕ) → ℕ → Type 0
 indexFault image =
-    frameFault image (keysFault (length (indexBytes image)) (blockSpan 5 (indexStart image)) (indexStart image) [] (indexBytes image))
+    frameFault image (keysFault (length (indexBytes image)) (blockSpan 5 (indexStart image)) [] (indexBytes image))
 
--- 1 to 16: the index, or where that is good, the blocks of its keys
+-- 1 to 16: the index, or where that keeps its rules, the blocks of its keys
 abbrev pub fault : (image : List ℕ) → ℕ → Type 0
-fault image n = indexFault image n ⊎ ((keys : List IndexKey) × (readIndex image ≡ ok keys) × seriesFault image keys n)
+fault image n = indexFault image n ⊎ ((keys : List IndexKey) × KeepsIndex image keys × seriesFault image keys n)

@@ -8,13 +8,11 @@ use mathlib.Core.Path.{_≡_}
 use mathlib.Core.Logic.{_↔_, _≢_}
 use mathlib.Core.List.{List, [], _∷_}
 use lib.ListN.{length, take}
-use Rattle.format.specs.Limits.{programBuffer}
-use Rattle.format.specs.Refusals.{ok}
 use Rattle.format.specs.Bytes.{AllBytes}
 use Rattle.format.specs.Meaning.{Meaning}
-use Rattle.format.specs.Roll.{readRoll}
 use Rattle.format.specs.Writer.{writerImage}
 use Rattle.format.specs.Acts.{decimalLine, programOutput}
+use Rattle.acceptance.specs.Rolls.{KeepsRoll}
 use Rattle.theorems.specs.Files.{Accepted, GoodRoll, OurFile, UnrollGives}
 
 abbrev pub line19 : List ℕ
@@ -28,29 +26,29 @@ line22 = 0x32 ∷ 0x32 ∷ 0x0A ∷ []
 
 pub record Tried (roll : List ℕ) (m : Meaning) : Type 0 where
   pub good : GoodRoll roll m
-  pub heard : length roll ≤ programBuffer
+  pub heard : length roll ≤ 65_536
 
 -- Not met by a program that judges a long roll by its bytes, leaves out the line feed, writes a number besides an image, or
 -- writes nothing.
 pub record Program : Type 0 where
   -- a roll longer than its buffer is 19, whatever it holds
-  pub longer : (roll : List ℕ) → programBuffer < length roll → programOutput roll ≡ line19
+  pub longer : (roll : List ℕ) → 65_536 < length roll → programOutput roll ≡ line19
   -- any other is 20 exactly when it breaks its rules
-  pub broken : (roll : List ℕ) → length roll ≤ programBuffer
-      → (programOutput roll ≡ line20) ↔ ((m : Meaning) → readRoll roll ≢ ok m)
+  pub broken : (roll : List ℕ) → AllBytes roll → length roll ≤ 65_536
+      → (programOutput roll ≡ line20) ↔ ((m : Meaning) → ¬ KeepsRoll roll m)
   -- a good one is 19 exactly when its image is longer than the image's buffer
   pub short : (roll : List ℕ) (m : Meaning) → Tried roll m
-      → (programOutput roll ≡ line19) ↔ (programBuffer < length (writerImage m))
+      → (programOutput roll ≡ line19) ↔ (65_536 < length (writerImage m))
   -- and its image exactly when that has room
   pub image : (roll : List ℕ) (m : Meaning) → Tried roll m
-      → (programOutput roll ≡ writerImage m) ↔ (length (writerImage m) ≤ programBuffer)
+      → (programOutput roll ≡ writerImage m) ↔ (length (writerImage m) ≤ 65_536)
   -- no roll that the program looks at has an image above 1,048,576 bytes: 22 is never told
   pub never22 : (roll : List ℕ) → AllBytes roll → programOutput roll ≢ line22
   -- the image is our writer's file of the roll's points, is accepted and means them
-  pub accepted : (roll : List ℕ) (m : Meaning) → Tried roll m → length (writerImage m) ≤ programBuffer
+  pub accepted : (roll : List ℕ) (m : Meaning) → Tried roll m → length (writerImage m) ≤ 65_536
       → OurFile (programOutput roll) m × Accepted (programOutput roll) m
   -- unrolled, into any buffer that has room, it is the roll again
-  pub again : (roll lent : List ℕ) (m : Meaning) → Tried roll m → length (writerImage m) ≤ programBuffer → length roll ≤ length lent
+  pub again : (roll lent : List ℕ) (m : Meaning) → Tried roll m → length (writerImage m) ≤ 65_536 → length roll ≤ length lent
       → UnrollGives (programOutput roll) lent roll
   -- an image or a number, never both: an image begins with 16 hex, and a number's line with a digit
   pub apart : (image : List ℕ) (m : Meaning) (number : ℕ) → Accepted image m → take 1 image ≢ take 1 (decimalLine number)
