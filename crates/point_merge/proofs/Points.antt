@@ -6,7 +6,6 @@
 --   points-added, points-past   what adding them answers, by cases
 use Prim.Native.Nat.{ℕ, _+_, _≤_, _<_}
 use mathlib.Core.Path.{_≡_, refl, ap, ap₂, sym, subst, _∙_}
-use mathlib.Core.Bool.{Bool}
 use mathlib.Core.List.{List, [], _∷_, _++_}
 use native.Mathlib.Omega.{arith}
 use lib.IntN.{ℤ}
@@ -16,8 +15,9 @@ use Rattle.format.specs.Limits.{imageMost, writerBlockMost}
 use Rattle.format.specs.Meaning.{Point}
 use Rattle.format.specs.Merge.{mergePoints}
 use Rattle.format.specs.Block.{filled}
+use Rattle.builder.specs.declared.Mode.{Mode}
 use Rattle.builder.specs.declared.Places.{Places}
-use Rattle.builder.specs.Steps.{ExtendFits, Closed, extendPlaces, extendBytes}
+use Rattle.builder.specs.Steps.{ExtendFits, Closed, closedKey, extendPlaces, extendBytes}
 use Rattle.builder.specs.Passes.{Near, Filling, Past}
 use Rattle.format.proofs.Cells.{filled-length}
 use Rattle.builder.proofs.Passes.{past-key, extend-fits, extend-filling, extend-same}
@@ -26,7 +26,6 @@ use Rattle.feed.specs.Feeds.{blocksLeft, pointsLeft, seriesLeft, Stands, Done}
 use Rattle.feed.proofs.Standing.{Left}
 use Rattle.feed.proofs.Blocks.{no-block}
 use Rattle.feed.proofs.Cells.{points-blocks}
-use Rattle.writer.specs.Adding.{closedKey}
 use Rattle.block_merge.specs.declared.Merged.{Merged}
 use Rattle.block_merge.specs.Cells.{Grown}
 use Rattle.point_merge.specs.declared.PointsAdded.{PointsAdded}
@@ -41,13 +40,13 @@ pub record Along (image : List ℕ) (f x : Feed) : Type 0 where
   pub series : seriesLeft image x ≡ seriesLeft image f
 
 -- the feeds x and y of the open key, which comes to `whole`
-pub record Merging (older : List ℕ) (f : Feed) (newer : List ℕ) (g : Feed) (laying : Bool) (kind : Kind) (whole : Closed)
+pub record Merging (older : List ℕ) (f : Feed) (newer : List ℕ) (g : Feed) (mode : Mode) (kind : Kind) (whole : Closed)
     (x : Feed) (olderTimes : List ℤ) (olderValues : List ℕ) (y : Feed) (newerTimes : List ℤ) (newerValues : List ℕ)
     (s : Places) (times : List ℤ) (values out : List ℕ) : Type 0 where
   pub older-at : Along older f x
   pub newer-at : Along newer g y
-  pub filling : Filling laying kind (mergedPoints older x olderTimes olderValues newer y newerTimes newerValues) s times values out
-  pub same : closedKey laying kind (mergedPoints older x olderTimes olderValues newer y newerTimes newerValues) s times values out ≡ whole
+  pub filling : Filling mode kind (mergedPoints older x olderTimes olderValues newer y newerTimes newerValues) s times values out
+  pub same : closedKey mode kind (mergedPoints older x olderTimes olderValues newer y newerTimes newerValues) s times values out ≡ whole
 
 -- ---- a longer fill
 
@@ -68,11 +67,11 @@ split (p ∷ f) (q ∷ f′) a r e h =
 
 -- ---- the steps
 
-module _ {older : List ℕ} {f : Feed} {newer : List ℕ} {g : Feed} {laying : Bool} {kind : Kind}
+module _ {older : List ℕ} {f : Feed} {newer : List ℕ} {g : Feed} {mode : Mode} {kind : Kind}
     {s : Places} {times : List ℤ} {values out : List ℕ} where
   pub merging-starts : {olderTimes : List ℤ} {olderValues : List ℕ} {newerTimes : List ℤ} {newerValues : List ℕ}
-      → PointsReady older f olderTimes olderValues newer g newerTimes newerValues laying kind s times values out
-      → Merging older f newer g laying kind (closedKey laying kind (mergedPoints older f olderTimes olderValues newer g newerTimes newerValues) s times values out)
+      → PointsReady older f olderTimes olderValues newer g newerTimes newerValues mode kind s times values out
+      → Merging older f newer g mode kind (closedKey mode kind (mergedPoints older f olderTimes olderValues newer g newerTimes newerValues) s times values out)
       f olderTimes olderValues g newerTimes newerValues s times values out
   merging-starts h = record {
     older-at = record { stands = h .older-ready .stands; series = refl };
@@ -82,17 +81,17 @@ module _ {older : List ℕ} {f : Feed} {newer : List ℕ} {g : Feed} {laying : B
   }
 
   module _ {whole : Closed} {x : Feed} {olderTimes : List ℤ} {olderValues : List ℕ} {y : Feed} {newerTimes : List ℤ} {newerValues : List ℕ}
-      (h : Merging older f newer g laying kind whole x olderTimes olderValues y newerTimes newerValues s times values out) where
+      (h : Merging older f newer g mode kind whole x olderTimes olderValues y newerTimes newerValues s times values out) where
     -- the points to come
     abbrev all : List Point
     all = mergedPoints older x olderTimes olderValues newer y newerTimes newerValues
 
-    pub merging-past : (s .block ≤ imageMost → s .entry ≤ imageMost → ⊥) → Past whole
-    merging-past past = subst Past (h .same) (past-key laying kind (filled (s .filled) times values) all s out past)
+    pub merging-past : (s .block .0 ≤ imageMost → s .entry .0 ≤ imageMost → ⊥) → Past whole
+    merging-past past = subst Past (h .same) (past-key mode kind (filled (s .filled) times values) all s out past)
 
     module _ {x′ : Feed} {ot : List ℤ} {ov : List ℕ} (p : Settled older x olderTimes olderValues x′ ot ov)
         {y′ : Feed} {nt : List ℤ} {nv : List ℕ} (q : Settled newer y newerTimes newerValues y′ nt nv) where
-      pub merging-settled : Merging older f newer g laying kind whole x′ ot ov y′ nt nv s times values out
+      pub merging-settled : Merging older f newer g mode kind whole x′ ot ov y′ nt nv s times values out
       merging-settled = record {
         older-at = record { stands = p .stands; series = p .series ∙ h .older-at .series };
         newer-at = record { stands = q .stands; series = q .series ∙ h .newer-at .series };
@@ -101,7 +100,7 @@ module _ {older : List ℕ} {f : Feed} {newer : List ℕ} {g : Feed} {laying : B
       }
 
     module _ (older-end : x .count ≤ x .next → Done x) (newer-end : y .count ≤ y .next → Done y) where
-      pub merging-ends : x .count ≤ x .next → y .count ≤ y .next → AllAdded older f newer g laying kind whole s x y times values out
+      pub merging-ends : x .count ≤ x .next → y .count ≤ y .next → AllAdded older f newer g mode kind whole s x y times values out
       merging-ends used spent =
           let first = points-blocks x olderTimes olderValues older used ∙ no-block older x (h .older-at .stands) (older-end used .left) in
           let second = points-blocks y newerTimes newerValues newer spent ∙ no-block newer y (h .newer-at .stands) (newer-end spent .left) in
@@ -109,8 +108,8 @@ module _ {older : List ℕ} {f : Feed} {newer : List ℕ} {g : Feed} {laying : B
           record {
             older-done = record { stands = h .older-at .stands; done = older-end used; series = h .older-at .series };
             newer-done = record { stands = h .newer-at .stands; done = newer-end spent; series = h .newer-at .series };
-            filling = subst (λ (ps : List Point). Filling laying kind ps s times values out) none (h .filling);
-            same = ap (λ (ps : List Point). closedKey laying kind ps s times values out) (sym none) ∙ h .same;
+            filling = subst (λ (ps : List Point). Filling mode kind ps s times values out) none (h .filling);
+            same = ap (λ (ps : List Point). closedKey mode kind ps s times values out) (sym none) ∙ h .same;
           }
 
       module _ {to : Merged} {times′ : List ℤ} {values′ : List ℕ}
@@ -150,11 +149,11 @@ module _ {older : List ℕ} {f : Feed} {newer : List ℕ} {g : Feed} {laying : B
         parts : Split (filled (s .filled) times values) (filled (to .filled) times′ values′) all left
         parts = split _ _ _ _ all-same (omega (arith, before-long, after-long, longer))
 
-        filling-parts : Filling laying kind (parts .added ++ left) s times values out
-        filling-parts = subst (λ (ps : List Point). Filling laying kind ps s times values out) (parts .left) (h .filling)
+        filling-parts : Filling mode kind (parts .added ++ left) s times values out
+        filling-parts = subst (λ (ps : List Point). Filling mode kind ps s times values out) (parts .left) (h .filling)
 
-        pub grown-fits : ExtendFits laying kind times′ values′ (to .filled) s out
-        grown-fits = extend-fits laying kind (parts .added) left s times values out filling-parts (to .filled) times′ values′ (parts .laid) (grown .most) same-times same-values
+        pub grown-fits : ExtendFits mode kind times′ values′ (to .filled) s out
+        grown-fits = extend-fits mode kind (parts .added) left s times values out filling-parts (to .filled) times′ values′ (parts .laid) (grown .most) same-times same-values
 
         pub grown-less : length left < length all
         grown-less =
@@ -169,24 +168,24 @@ module _ {older : List ℕ} {f : Feed} {newer : List ℕ} {g : Feed} {laying : B
             )
 
         pub grown-goes-on : {s′ : Places} {out′ : List ℕ} → s′ ≡ extendPlaces kind (filled (to .filled) times′ values′) s
-            → out′ ≡ extendBytes laying kind (filled (to .filled) times′ values′) s out → Near (s .block) (s .entry)
-            → Merging older f newer g laying kind whole (passedTo (to .older) x) olderTimes olderValues (passedTo (to .newer) y) newerTimes newerValues s′ times′ values′ out′
+            → out′ ≡ extendBytes mode kind (filled (to .filled) times′ values′) s out → Near (s .block) (s .entry)
+            → Merging older f newer g mode kind whole (passedTo (to .older) x) olderTimes olderValues (passedTo (to .newer) y) newerTimes newerValues s′ times′ values′ out′
         grown-goes-on {s′} {out′} places laid near = record {
           older-at = record { stands = older-passed .stands; series = older-passed .series ∙ h .older-at .series };
           newer-at = record { stands = newer-passed .stands; series = newer-passed .series ∙ h .newer-at .series };
-          filling = extend-filling laying kind (parts .added) left s times values out filling-parts (to .filled) times′ values′ (parts .laid) (grown .most) same-times same-values s′ out′ places laid near;
+          filling = extend-filling mode kind (parts .added) left s times values out filling-parts (to .filled) times′ values′ (parts .laid) (grown .most) same-times same-values s′ out′ places laid near;
           same =
-              extend-same laying kind (parts .added) left s times values out filling-parts (to .filled) times′ values′ (parts .laid) (grown .most) same-times same-values s′ out′ places laid
-              ∙ ap (λ (ps : List Point). closedKey laying kind ps s times values out) (sym (parts .left))
+              extend-same mode kind (parts .added) left s times values out filling-parts (to .filled) times′ values′ (parts .laid) (grown .most) same-times same-values s′ out′ places laid
+              ∙ ap (λ (ps : List Point). closedKey mode kind ps s times values out) (sym (parts .left))
               ∙ h .same;
         }
 
 -- ---- what adding them answers
 
-module _ (older : List ℕ) (f : Feed) (newer : List ℕ) (g : Feed) (laying : Bool) (kind : Kind) (whole : Closed) (r : PointsAdded) (times : List ℤ) (values out : List ℕ) where
-  pub points-added : (s : Places) (x y : Feed) → r ≡ PointsAdded.Points s x y → PointsAddedAs older f newer g laying kind whole r times values out
-      → AllAdded older f newer g laying kind whole s x y times values out
-  points-added s x y e h = subst (λ (z : PointsAdded). PointsAddedAs older f newer g laying kind whole z times values out) e h
+module _ (older : List ℕ) (f : Feed) (newer : List ℕ) (g : Feed) (mode : Mode) (kind : Kind) (whole : Closed) (r : PointsAdded) (times : List ℤ) (values out : List ℕ) where
+  pub points-added : (s : Places) (x y : Feed) → r ≡ PointsAdded.Points s x y → PointsAddedAs older f newer g mode kind whole r times values out
+      → AllAdded older f newer g mode kind whole s x y times values out
+  points-added s x y e h = subst (λ (z : PointsAdded). PointsAddedAs older f newer g mode kind whole z times values out) e h
 
-  pub points-past : r ≡ PointsAdded.TooLong → PointsAddedAs older f newer g laying kind whole r times values out → Past whole
-  points-past e h = subst (λ (z : PointsAdded). PointsAddedAs older f newer g laying kind whole z times values out) e h
+  pub points-past : r ≡ PointsAdded.TooLong → PointsAddedAs older f newer g mode kind whole r times values out → Past whole
+  points-past e h = subst (λ (z : PointsAdded). PointsAddedAs older f newer g mode kind whole z times values out) e h

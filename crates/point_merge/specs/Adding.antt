@@ -6,7 +6,6 @@
 --   PointsReady, AllAdded, PointsAddedAs   the points of a key are added
 use Prim.Native.Nat.{ℕ, _≤_}
 use mathlib.Core.Path.{_≡_}
-use mathlib.Core.Bool.{Bool}
 use mathlib.Core.List.{List, []}
 use lib.IntN.{ℤ}
 use lib.ListN.{length}
@@ -14,12 +13,12 @@ use Rattle.format.specs.declared.Kind.{Kind}
 use Rattle.format.specs.Limits.{readBlockMost}
 use Rattle.format.specs.Meaning.{Point}
 use Rattle.format.specs.Merge.{mergePoints}
+use Rattle.builder.specs.declared.Mode.{Mode}
 use Rattle.builder.specs.declared.Places.{Places}
-use Rattle.builder.specs.Steps.{Closed}
+use Rattle.builder.specs.Steps.{Closed, closedKey}
 use Rattle.builder.specs.Passes.{Filling, Past}
 use Rattle.feed.specs.declared.Feed.{Feed}
 use Rattle.feed.specs.Feeds.{pointsLeft, seriesLeft, Stands, Done}
-use Rattle.writer.specs.Adding.{closedKey}
 use Rattle.key_merge.specs.Turns.{KeyDone}
 use Rattle.point_merge.specs.declared.PointsAdded.{PointsAdded}
 
@@ -44,21 +43,21 @@ mergedPoints older f olderTimes olderValues newer g newerTimes newerValues =
 
 pub record PointsReady (older : List ℕ) (f : Feed) (olderTimes : List ℤ) (olderValues : List ℕ)
     (newer : List ℕ) (g : Feed) (newerTimes : List ℤ) (newerValues : List ℕ)
-    (laying : Bool) (kind : Kind) (s : Places) (times : List ℤ) (values out : List ℕ) : Type 0 where
+    (mode : Mode) (kind : Kind) (s : Places) (times : List ℤ) (values out : List ℕ) : Type 0 where
   pub older-ready : SideReady older f olderTimes olderValues
   pub newer-ready : SideReady newer g newerTimes newerValues
-  pub filling : Filling laying kind (mergedPoints older f olderTimes olderValues newer g newerTimes newerValues) s times values out
+  pub filling : Filling mode kind (mergedPoints older f olderTimes olderValues newer g newerTimes newerValues) s times values out
 
 -- they were added: the key is as before, with none to come
-pub record AllAdded (older : List ℕ) (f : Feed) (newer : List ℕ) (g : Feed) (laying : Bool) (kind : Kind) (whole : Closed)
+pub record AllAdded (older : List ℕ) (f : Feed) (newer : List ℕ) (g : Feed) (mode : Mode) (kind : Kind) (whole : Closed)
     (s : Places) (x y : Feed) (times : List ℤ) (values out : List ℕ) : Type 0 where
   pub older-done : KeyDone older f x
   pub newer-done : KeyDone newer g y
-  pub filling : Filling laying kind [] s times values out
-  pub same : closedKey laying kind [] s times values out ≡ whole
+  pub filling : Filling mode kind [] s times values out
+  pub same : closedKey mode kind [] s times values out ≡ whole
 
-abbrev pub PointsAddedAs : (older : List ℕ) → Feed → (newer : List ℕ) → Feed → (laying : Bool) → Kind → (whole : Closed)
+abbrev pub PointsAddedAs : (older : List ℕ) → Feed → (newer : List ℕ) → Feed → Mode → Kind → (whole : Closed)
     → PointsAdded → (times : List ℤ) → (values out : List ℕ) → Type 0
-PointsAddedAs older f newer g laying kind whole (PointsAdded.Points s x y) times values out =
-    AllAdded older f newer g laying kind whole s x y times values out
-PointsAddedAs older f newer g laying kind whole PointsAdded.TooLong times values out = Past whole
+PointsAddedAs older f newer g mode kind whole (PointsAdded.Points s x y) times values out =
+    AllAdded older f newer g mode kind whole s x y times values out
+PointsAddedAs older f newer g mode kind whole PointsAdded.TooLong times values out = Past whole

@@ -1,8 +1,9 @@
 // The points of the open key of two images, merged and handed to the builder: block by block, so that each point is
-// moved once. Floor 7: it stands on block_merge, feed, builder and writer.
-ghost use Rattle.writer.specs.Adding.{closedKey};
+// moved once. Floor 7: it stands on block_merge, feed and builder.
+ghost use Rattle.builder.specs.Steps.{closedKey};
 ghost use Rattle.point_merge.specs.Adding.{SideReady, Settled, mergedPoints, PointsReady, PointsAddedAs};
 use block_merge::Merged;
+use builder::Mode;
 use builder::Places;
 use feed::Feed;
 use feed::NextBlock;
@@ -43,20 +44,22 @@ pub fn merge_points(
     newer_times: &mut [i64],
     newer_values: &mut [u64],
     out: &mut [u8],
-    laying: bool,
+    mode: Mode,
     kind: Kind,
     times: &mut [i64],
     values: &mut [u64],
     opened: Places,
 ) -> PointsAdded
-    requires { ⌜ PointsReady (now older) old (now «older_times») (now «older_values») (now newer) new (now «newer_times») (now «newer_values») laying kind opened (now times) (now values) (now out) ⌝ }
-    ensures { λ r. ⌜ PointsAddedAs (now (older .entry)) old (now (newer .entry)) new laying kind (closedKey laying kind (mergedPoints (now (older .entry)) old (now («older_times» .entry)) (now («older_values» .entry)) (now (newer .entry)) new (now («newer_times» .entry)) (now («newer_values» .entry))) opened (now (times .entry)) (now (values .entry)) (now (out .entry))) r (now (times .exit)) (now (values .exit)) (now (out .exit)) ⌝ }
+    requires { ⌜ PointsReady (now older) old (now «older_times») (now «older_values») (now newer) new (now «newer_times») (now «newer_values») mode kind opened (now times) (now values) (now out) ⌝ }
+    ensures { λ r. ⌜ PointsAddedAs (now (older .entry)) old (now (newer .entry)) new mode kind (closedKey mode kind (mergedPoints (now (older .entry)) old (now («older_times» .entry)) (now («older_values» .entry)) (now (newer .entry)) new (now («newer_times» .entry)) (now («newer_values» .entry))) opened (now (times .entry)) (now (values .entry)) (now (out .entry))) r (now (times .exit)) (now (values .exit)) (now (out .exit)) ⌝ }
 {
     let mut places = opened;
     let mut first = old;
     let mut second = new;
     loop {
-        if writer::past(places.block, places.entry) {
+        let block = places.block;
+        let entry = places.entry;
+        if builder::past(block, entry) {
             return PointsAdded::TooLong;
         }
         first = settle(older, first, older_times, older_values);
@@ -86,6 +89,6 @@ pub fn merge_points(
         );
         first.next = grown.older;
         second.next = grown.newer;
-        places = builder::extend(out, laying, kind, times, values, places, grown.filled);
+        places = builder::extend(out, mode, kind, times, values, places, grown.filled);
     }
 }

@@ -1,21 +1,17 @@
 -- The laws of this crate.
---   Judges   the test that gives a pass up, and the answer to the length of an image
 --   Results  what is read of a key, part by part
 --   Fills    points that are read into the fill
 --   Adds     adding points that were read
 --   Points   adding all points of a key
 --   Series   adding a series
 --   Passes   a pass over all series
---   Laying   the two passes over any meaning, judged between them
 --   Writes   the act
 --   Responses   what the program writes
-pub mod Judges
 pub mod Results
 pub mod Fills
 pub mod Adds
 pub mod Points
 pub mod Series
 pub mod Passes
-pub mod Laying
 pub mod Writes
 pub mod Responses

@@ -5,7 +5,7 @@ use mathlib.Core.Path.{sym, subst, _∙_}
 use mathlib.Core.Bool.{Bool}
 use Rattle.format.specs.Limits.{imageMost}
 use Rattle.feed.specs.declared.Feed.{Feed}
-use Rattle.writer.proofs.Judges.{past-both, past-neither}
+use Rattle.builder.proofs.Judges.{past-both, past-neither}
 use Rattle.key_merge.specs.Turns.{TurnAs}
 use Rattle.key_merge.proofs.Keys.{Turned, turned}
 use Rattle.merge.proofs.Passes.{passing-past, passing-end, passing-ready, next-added}
@@ -15,7 +15,7 @@ use Rattle.merge.proofs.add_next.Tie as tie
 -- the next key
 module _ (c : tie.After-known-told) where
   abbrev start : tie.Start
-  start = c .before .before .before .before .before .before .before .before .before .before .before .before .before .before
+  start = c .before .before .before .before .before .before .before .before .before .before .before .before .before .before .before .before
 
   abbrev x : Feed
   x = c .before .turn .given .0 .0
@@ -33,7 +33,7 @@ module _ (c : tie.After-known-told) where
       turned _ _ (i .older-stands) (i .older-done) _ _ (i .newer-stands) (i .newer-done) x y (c .before .turn .given .0 .1 .1 .0) second
       (subst (TurnAs (a .older .now) (a .at .older) (a .newer .now) (a .at .newer)) (c .before .turn .given .1) (c .before .before .before .next-turn .ensures))
 
-  within : (start .args .at .block ≤ imageMost) × (start .args .at .entry ≤ imageMost)
+  within : (start .args .at .block .0 ≤ imageMost) × (start .args .at .entry .0 ≤ imageMost)
   within = past-neither (start .args .at .block) (start .args .at .entry) (sym (c .before .before .before .before .before .before .before .past .ensures) ∙ c .before .before .before .before .before .before .if1 .left)
 
 past-requires : tie.Need-past-requires
@@ -41,12 +41,12 @@ past-requires c κs = tt
 
 returns : tie.Need-returns
 returns c =
-    let z = c .before .before .before .before .before .before .before .before .args .at in
-    passing-past (c .before .before .before .before .before .before .before .before .pre .0) (past-both (z .block) (z .entry) (sym (c .before .past .ensures) ∙ c .if1 .taken))
+    let z = c .before .before .before .before .before .before .before .before .before .before .args .at in
+    passing-past (c .before .before .before .before .before .before .before .before .before .before .pre .0) (past-both (z .block) (z .entry) (sym (c .before .past .ensures) ∙ c .if1 .taken))
 
 next-turn-requires : tie.Need-next-turn-requires
 next-turn-requires c κs =
-    let i = c .before .before .before .before .before .before .before .before .before .before .pre .0 in
+    let i = c .before .before .before .before .before .before .before .before .before .before .before .before .pre .0 in
     (i .older-stands, i .older-done, i .newer-stands, i .newer-done)
 
 enum-known-turn : tie.Need-enum-known-turn
@@ -57,8 +57,8 @@ enum-told c = search needs
 
 returns-2 : tie.Need-returns-2
 returns-2 c =
-    let a = c .before .before .before .before .before .before .before .before .before .before .before .before .before .args in
-    passing-end (c .before .before .before .before .before .before .before .before .before .before .before .before .before .pre .0) (subst (TurnAs (a .older .now) (a .at .older) (a .newer .now) (a .at .newer)) (c .enum-told .given .1) (c .before .before .next-turn .ensures))
+    let a = c .before .before .before .before .before .before .before .before .before .before .before .before .before .before .before .args in
+    passing-end (c .before .before .before .before .before .before .before .before .before .before .before .before .before .before .before .pre .0) (subst (TurnAs (a .older .now) (a .at .older) (a .newer .now) (a .at .newer)) (c .enum-told .given .1) (c .before .before .next-turn .ensures))
 
 add-series-requires : tie.Need-add-series-requires
 add-series-requires c κs =

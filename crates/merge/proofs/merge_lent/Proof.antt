@@ -2,16 +2,18 @@
 use borrow.Author.Needs.{needs}
 use Prim.Native.Nat.{ℕ, _+_}
 use mathlib.Core.Path.{_≡_, refl, ap, _∙_}
-use mathlib.Core.Bool.{false}
 use mathlib.Core.List.{List, [], _++_}
 use native.Mathlib.Omega.{arith}
 use lib.ListN.{length}
+use Rattle.format.specs.declared.ImagePlace.{ImagePlace}
+use Rattle.format.specs.declared.IndexPlace.{IndexPlace}
+use Rattle.builder.specs.declared.Mode.{Mode}
 use Rattle.builder.specs.Steps.{Closed}
-use Rattle.writer.specs.Judging.{judged}
+use Rattle.builder.specs.Judging.{judged}
 use Rattle.merge.specs.Adding.{allClosed}
 use Rattle.format.proofs.Lists.{nothing-before}
 use Rattle.format.proofs.Tests.{never}
-use Rattle.writer.proofs.Laying.{image-long, image-left, image-fits, image-written, passed-ended, passed-past}
+use Rattle.builder.proofs.TwoPasses.{image-long, image-left, image-fits, image-written, passed-ended, passed-past}
 use Rattle.key_merge.specs.Turns.{mergedOf}
 use Rattle.merge.proofs.merge_lent.Statement.{statement}
 use Rattle.merge.proofs.merge_lent.Tie as tie
@@ -38,17 +40,17 @@ module _ (c : tie.After-judge) where
   abbrev passed : tie.After-pass
   passed = c .before .before .before .before .before .before .before .before .before .before .before .before .before .before .before
 
-  abbrev block : ℕ
+  abbrev block : ImagePlace
   block = c .before .before .measured .given .0 .0
 
-  abbrev entry : ℕ
+  abbrev entry : IndexPlace
   entry = c .before .before .measured .given .0 .1 .0
 
-  measured : _≡_ {A = Closed} (record { block = block; entry = entry; bytes = passed .pass .last .1 .1 .1 .1 .1 .1 .0 }) (allClosed false (older passed) (newer passed) 0 [])
+  measured : _≡_ {A = Closed} (record { block = block; entry = entry; bytes = passed .pass .last .1 .1 .1 .1 .1 .1 .0 }) (allClosed Mode.Measure (older passed) (newer passed) [])
   measured = passed-ended _ _ _ _ _ (c .before .before .measured .given .1) (passed .pass .ensures)
 
-  says : c .judge .result ≡ judged (block + entry + 8) (length (out passed))
-  says = c .judge .ensures ∙ ap (λ (l : List ℕ). judged (block + entry + 8) (length l)) (unchanged passed)
+  says : c .judge .result ≡ judged (block .0 + entry .0 + 8) (length (out passed))
+  says = c .judge .ensures ∙ ap (λ (l : List ℕ). judged (block .0 + entry .0 + 8) (length l)) (unchanged passed)
 
 slice-relend-prefix-pass : tie.Need-slice-relend-prefix-pass
 slice-relend-prefix-pass c = search needs
@@ -81,10 +83,10 @@ same-length-5 : tie.Need-same-length-5
 same-length-5 c = ap length (unchanged (c .before .before .before .before .before .before .before .before .before .before .before .before .before))
 
 same-length-6 : tie.Need-same-length-6
-same-length-6 c = c .before .before .before .before .before .before .before .before .before .before .before .before .before .pass .kept .1 .1 .1 .1 .1 .1 .1 .1 .1 .0
+same-length-6 c = c .before .before .before .before .before .before .before .before .before .before .before .before .before .pass .kept .1 .1 .1 .1 .1 .1 .1 .1 .0
 
 same-length-7 : tie.Need-same-length-7
-same-length-7 c = c .before .before .before .before .before .before .before .before .before .before .before .before .before .pass .kept .1 .1 .1 .1 .1 .1 .1 .1 .1 .1 .0
+same-length-7 c = c .before .before .before .before .before .before .before .before .before .before .before .before .before .pass .kept .1 .1 .1 .1 .1 .1 .1 .1 .1 .0
 
 returns : tie.Need-returns
 returns c =
@@ -117,10 +119,10 @@ same-length-12 : tie.Need-same-length-12
 same-length-12 c = ap length (unchanged (c .before .before .before .before .before .before .before .before .before .before .before .before .before .before .before .before .before))
 
 same-length-13 : tie.Need-same-length-13
-same-length-13 c = c .before .before .before .before .before .before .before .before .before .before .before .before .before .before .before .before .before .pass .kept .1 .1 .1 .1 .1 .1 .1 .1 .1 .0
+same-length-13 c = c .before .before .before .before .before .before .before .before .before .before .before .before .before .before .before .before .before .pass .kept .1 .1 .1 .1 .1 .1 .1 .1 .0
 
 same-length-14 : tie.Need-same-length-14
-same-length-14 c = c .before .before .before .before .before .before .before .before .before .before .before .before .before .before .before .before .before .pass .kept .1 .1 .1 .1 .1 .1 .1 .1 .1 .1 .0
+same-length-14 c = c .before .before .before .before .before .before .before .before .before .before .before .before .before .before .before .before .before .pass .kept .1 .1 .1 .1 .1 .1 .1 .1 .1 .0
 
 returns-2 : tie.Need-returns-2
 returns-2 c =
@@ -143,8 +145,8 @@ lay-image-requires c κs =
         older-values = omega (arith, kept .1 .1 .0, lent .older-values);
         newer-times = omega (arith, kept .1 .1 .1 .1 .0, lent .newer-times);
         newer-values = omega (arith, kept .1 .1 .1 .1 .1 .0, lent .newer-values);
-        in-times = omega (arith, kept .1 .1 .1 .1 .1 .1 .1 .1 .1 .0, lent .in-times);
-        in-values = omega (arith, kept .1 .1 .1 .1 .1 .1 .1 .1 .1 .1 .0, lent .in-values);
+        in-times = omega (arith, kept .1 .1 .1 .1 .1 .1 .1 .1 .0, lent .in-times);
+        in-values = omega (arith, kept .1 .1 .1 .1 .1 .1 .1 .1 .1 .0, lent .in-values);
       },
     )
 
@@ -164,10 +166,10 @@ same-length-19 : tie.Need-same-length-19
 same-length-19 c = c .before .before .before .before .before .before .before .before .before .before .before .lay-image .kept .1 .1 .1 .1 .1 .1 .0 ∙ ap length (unchanged (c .before .before .before .before .before .before .before .before .before .before .before .before .before .before .before .before .before .before .before .before .before .before .before .before .before .before .before .before .before .before .before .before .before .before .before .before .before))
 
 same-length-20 : tie.Need-same-length-20
-same-length-20 c = c .before .before .before .before .before .before .before .before .before .before .before .lay-image .kept .1 .1 .1 .1 .1 .1 .1 .0 ∙ c .before .before .before .before .before .before .before .before .before .before .before .before .before .before .before .before .before .before .before .before .before .before .before .before .before .before .before .before .before .before .before .before .before .before .before .before .before .pass .kept .1 .1 .1 .1 .1 .1 .1 .1 .1 .0
+same-length-20 c = c .before .before .before .before .before .before .before .before .before .before .before .lay-image .kept .1 .1 .1 .1 .1 .1 .1 .0 ∙ c .before .before .before .before .before .before .before .before .before .before .before .before .before .before .before .before .before .before .before .before .before .before .before .before .before .before .before .before .before .before .before .before .before .before .before .before .before .pass .kept .1 .1 .1 .1 .1 .1 .1 .1 .0
 
 same-length-21 : tie.Need-same-length-21
-same-length-21 c = c .before .before .before .before .before .before .before .before .before .before .before .lay-image .kept .1 .1 .1 .1 .1 .1 .1 .1 .0 ∙ c .before .before .before .before .before .before .before .before .before .before .before .before .before .before .before .before .before .before .before .before .before .before .before .before .before .before .before .before .before .before .before .before .before .before .before .before .before .pass .kept .1 .1 .1 .1 .1 .1 .1 .1 .1 .1 .0
+same-length-21 c = c .before .before .before .before .before .before .before .before .before .before .before .lay-image .kept .1 .1 .1 .1 .1 .1 .1 .1 .0 ∙ c .before .before .before .before .before .before .before .before .before .before .before .before .before .before .before .before .before .before .before .before .before .before .before .before .before .before .before .before .before .before .before .before .before .before .before .before .before .pass .kept .1 .1 .1 .1 .1 .1 .1 .1 .1 .0
 
 returns-3 : tie.Need-returns-3
 returns-3 c =

@@ -8,25 +8,25 @@ use lib.ListN.{length}
 use Rattle.format.specs.Limits.{readBlockMost}
 use Rattle.format.specs.Meaning.{Point}
 use Rattle.format.specs.Merge.{mergePoints}
+use Rattle.builder.specs.Steps.{closedKey}
 use Rattle.builder.specs.Passes.{Near}
+use Rattle.builder.proofs.Judges.{past-both, past-near}
 use Rattle.feed.specs.declared.Feed.{Feed}
 use Rattle.feed.specs.Feeds.{Done}
-use Rattle.writer.specs.Adding.{closedKey}
-use Rattle.writer.proofs.Judges.{past-both, past-near}
 use Rattle.point_merge.specs.Adding.{mergedPoints}
 use Rattle.point_merge.proofs.Points.{Merging, merging-starts, merging-past, merging-settled, merging-ends, grown-fits, grown-less, grown-goes-on}
 use Rattle.point_merge.proofs.merge_points.Statement.{statement}
 use Rattle.point_merge.proofs.merge_points.Tie as tie
 
 abbrev Inv-loop : tie.InvT-loop
-Inv-loop older ot₀ ov₀ newer nt₀ nv₀ out₀ laying kind times₀ values₀ places₀ first₀ second₀ ot ov nt nv out times values places first second =
-    Merging older first₀ newer second₀ laying kind (closedKey laying kind (mergedPoints older first₀ ot₀ ov₀ newer second₀ nt₀ nv₀) places₀ times₀ values₀ out₀)
+Inv-loop older ot₀ ov₀ newer nt₀ nv₀ out₀ mode kind times₀ values₀ places₀ first₀ second₀ ot ov nt nv out times values places first second =
+    Merging older first₀ newer second₀ mode kind (closedKey mode kind (mergedPoints older first₀ ot₀ ov₀ newer second₀ nt₀ nv₀) places₀ times₀ values₀ out₀)
     first ot ov second nt nv places times values out
     × (length ot ≡ length ot₀) × (length ov ≡ length ov₀) × (length nt ≡ length nt₀) × (length nv ≡ length nv₀)
     × (length out ≡ length out₀) × (length times ≡ length times₀) × (length values ≡ length values₀)
 
 abbrev μ-loop : tie.MeasureT-loop
-μ-loop older ot₀ ov₀ newer nt₀ nv₀ out₀ laying kind times₀ values₀ places₀ first₀ second₀ ot ov nt nv out times values places first second = length (mergedPoints older first ot ov newer second nt nv)
+μ-loop older ot₀ ov₀ newer nt₀ nv₀ out₀ mode kind times₀ values₀ places₀ first₀ second₀ ot ov nt nv out times values places first second = length (mergedPoints older first ot ov newer second nt nv)
 
 loop-holds : tie.Need-loop-holds Inv-loop μ-loop
 loop-holds c = (merging-starts (c .before .before .before .before .before .before .pre), refl, refl, refl, refl, refl, refl, refl)
@@ -35,50 +35,50 @@ past-requires : tie.Need-past-requires Inv-loop μ-loop
 past-requires c κs = tt
 
 same-length : tie.Need-same-length Inv-loop μ-loop
-same-length c = c .before .before .loop .inv .1
+same-length c = c .before .before .before .before .loop .inv .1
 
 same-length-2 : tie.Need-same-length-2 Inv-loop μ-loop
-same-length-2 c = c .before .before .loop .inv .2
+same-length-2 c = c .before .before .before .before .loop .inv .2
 
 same-length-3 : tie.Need-same-length-3 Inv-loop μ-loop
-same-length-3 c = c .before .before .loop .inv .3
+same-length-3 c = c .before .before .before .before .loop .inv .3
 
 same-length-4 : tie.Need-same-length-4 Inv-loop μ-loop
-same-length-4 c = c .before .before .loop .inv .4
+same-length-4 c = c .before .before .before .before .loop .inv .4
 
 same-length-5 : tie.Need-same-length-5 Inv-loop μ-loop
-same-length-5 c = c .before .before .loop .inv .5
+same-length-5 c = c .before .before .before .before .loop .inv .5
 
 same-length-6 : tie.Need-same-length-6 Inv-loop μ-loop
-same-length-6 c = c .before .before .loop .inv .6
+same-length-6 c = c .before .before .before .before .loop .inv .6
 
 same-length-7 : tie.Need-same-length-7 Inv-loop μ-loop
-same-length-7 c = c .before .before .loop .inv .7
+same-length-7 c = c .before .before .before .before .loop .inv .7
 
 returns : tie.Need-returns Inv-loop μ-loop
 returns c =
-    let l = c .before .before .loop in
+    let l = c .before .before .before .before .loop in
     merging-past (l .inv .0) (past-both (l .places .block) (l .places .entry) (sym (c .before .past .ensures) ∙ c .if1 .taken))
 
 settle-requires : tie.Need-settle-requires Inv-loop μ-loop
 settle-requires c κs =
-    let l = c .before .before .before .before .loop in
-    let p = c .before .before .before .before .before .before .before .before .before .before .before .pre .older-ready in
+    let l = c .before .before .before .before .before .before .loop in
+    let p = c .before .before .before .before .before .before .before .before .before .before .before .before .before .pre .older-ready in
     record { stands = l .inv .0 .older-at .stands; in-times = omega (arith, l .inv .1, p .in-times); in-values = omega (arith, l .inv .2, p .in-values) }
 
 settle-requires-2 : tie.Need-settle-requires-2 Inv-loop μ-loop
 settle-requires-2 c κs =
-    let l = c .before .before .before .before .before .before .before .before .before .before .loop in
-    let p = c .before .before .before .before .before .before .before .before .before .before .before .before .before .before .before .before .before .pre .newer-ready in
+    let l = c .before .before .before .before .before .before .before .before .before .before .before .before .loop in
+    let p = c .before .before .before .before .before .before .before .before .before .before .before .before .before .before .before .before .before .before .before .pre .newer-ready in
     record { stands = l .inv .0 .newer-at .stands; in-times = omega (arith, l .inv .3, p .in-times); in-values = omega (arith, l .inv .4, p .in-values) }
 
 -- both feeds are settled
 module _ (d : tie.After-slice-known6 Inv-loop μ-loop) where
   abbrev start : tie.Start Inv-loop μ-loop
-  start = d .before .before .before .before .before .before .before .before .before .before .before .before .before .before .before .before .before .before .before .before .before
+  start = d .before .before .before .before .before .before .before .before .before .before .before .before .before .before .before .before .before .before .before .before .before .before .before
 
   abbrev here : tie.At-loop Inv-loop μ-loop
-  here = d .before .before .before .before .before .before .before .before .before .before .before .before .before .before
+  here = d .before .before .before .before .before .before .before .before .before .before .before .before .before .before .before .before
 
   abbrev x : Feed
   x = d .before .before .before .before .before .before .before .before .before .settle .result
@@ -128,8 +128,8 @@ module _ (d : tie.After-slice-known6 Inv-loop μ-loop) where
   settled :
       let a = start .args in
       let l = here .loop in
-      Merging (a .older .now) (a .old) (a .newer .now) (a .new) (a .laying) (a .kind)
-      (closedKey (a .laying) (a .kind) (mergedPoints (a .older .now) (a .old) (a .older-times .now) (a .older-values .now) (a .newer .now) (a .new) (a .newer-times .now) (a .newer-values .now)) (a .opened) (a .times .now) (a .values .now) (a .out .now))
+      Merging (a .older .now) (a .old) (a .newer .now) (a .new) (a .mode) (a .kind)
+      (closedKey (a .mode) (a .kind) (mergedPoints (a .older .now) (a .old) (a .older-times .now) (a .older-values .now) (a .newer .now) (a .new) (a .newer-times .now) (a .newer-values .now)) (a .opened) (a .times .now) (a .values .now) (a .out .now))
       x olderTimes olderValues y newerTimes newerValues (l .places) (l .times) (l .values) (l .out)
   settled = merging-settled (here .loop .inv .0) (d .before .before .before .before .before .before .before .before .before .settle .ensures) (d .before .before .before .settle2 .ensures)
 
@@ -166,13 +166,13 @@ same-length-11 : tie.Need-same-length-11 Inv-loop μ-loop
 same-length-11 c = newer-values (c .before .before .before .before .before)
 
 same-length-12 : tie.Need-same-length-12 Inv-loop μ-loop
-same-length-12 c = c .before .before .before .before .before .before .before .before .before .before .before .before .before .before .before .before .before .before .before .loop .inv .5
+same-length-12 c = c .before .before .before .before .before .before .before .before .before .before .before .before .before .before .before .before .before .before .before .before .before .loop .inv .5
 
 same-length-13 : tie.Need-same-length-13 Inv-loop μ-loop
-same-length-13 c = c .before .before .before .before .before .before .before .before .before .before .before .before .before .before .before .before .before .before .before .loop .inv .6
+same-length-13 c = c .before .before .before .before .before .before .before .before .before .before .before .before .before .before .before .before .before .before .before .before .before .loop .inv .6
 
 same-length-14 : tie.Need-same-length-14 Inv-loop μ-loop
-same-length-14 c = c .before .before .before .before .before .before .before .before .before .before .before .before .before .before .before .before .before .before .before .loop .inv .7
+same-length-14 c = c .before .before .before .before .before .before .before .before .before .before .before .before .before .before .before .before .before .before .before .before .before .loop .inv .7
 
 returns-2 : tie.Need-returns-2 Inv-loop μ-loop
 returns-2 c =

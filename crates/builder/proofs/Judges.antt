@@ -12,6 +12,8 @@ use native.Mathlib.Omega.{arith}
 use lib.Dec.{ltb}
 use lib.ListN.{length}
 use borrow.Author.Tests.{lt-ltb, le-ltb, lt-leb, le-leb, ltb-false}
+use Rattle.format.specs.declared.ImagePlace.{ImagePlace}
+use Rattle.format.specs.declared.IndexPlace.{IndexPlace}
 use Rattle.format.specs.declared.Refusal.{Refusal}
 use Rattle.format.specs.declared.Refusal.the-variants.{ShortBuffer, ImageTooLong}
 use Rattle.format.specs.declared.Written.{Written}
@@ -23,30 +25,30 @@ use Rattle.format.specs.Writer.{writerImage}
 use Rattle.format.specs.Acts.{laid, imageResult, writtenSays, sized}
 use Rattle.format.proofs.Cases.{below-or}
 use Rattle.format.proofs.Acts.{image-long, image-short, image-fits}
 use Rattle.builder.specs.Passes.{Near}
-use Rattle.writer.specs.Judging.{pastImage, judged}
+use Rattle.builder.specs.Judging.{pastImage, judged}
 
-module _ (b e : ℕ) where
-  pub past-block : imageMost < b → pastImage b e ≡ true
+module _ (b : ImagePlace) (e : IndexPlace) where
+  pub past-block : imageMost < b .0 → pastImage b e ≡ true
   unfolding pastImage
-  past-block h = rw (lt-ltb imageMost b h)
+  past-block h = rw (lt-ltb imageMost (b .0) h)
 
-  pub past-entry : b ≤ imageMost → ltb imageMost e ≡ pastImage b e
+  pub past-entry : b .0 ≤ imageMost → ltb imageMost (e .0) ≡ pastImage b e
   unfolding pastImage
-  past-entry h = rw (le-ltb imageMost b h)
+  past-entry h = rw (le-ltb imageMost (b .0) h)
 
   -- the places are not both within an image
-  pub past-both : pastImage b e ≡ true → b ≤ imageMost → e ≤ imageMost → ⊥
+  pub past-both : pastImage b e ≡ true → b .0 ≤ imageMost → e .0 ≤ imageMost → ⊥
   unfolding pastImage
-  past-both h x y = let z : _≡_ {A = Bool} false true = rw (le-ltb imageMost b x, le-ltb imageMost e y) at h in let w : _≡_ {A = ℕ} 0 1 = cc in omega arith
+  past-both h x y = let z : _≡_ {A = Bool} false true = rw (le-ltb imageMost (b .0) x, le-ltb imageMost (e .0) y) at h in let w : _≡_ {A = ℕ} 0 1 = cc in omega arith
 
   -- the places are both within an image
-  pub past-neither : pastImage b e ≡ false → (b ≤ imageMost) × (e ≤ imageMost)
+  pub past-neither : pastImage b e ≡ false → (b .0 ≤ imageMost) × (e .0 ≤ imageMost)
   unfolding pastImage
-  past-neither h = by (ltb imageMost b) refl (ltb imageMost e) refl h
+  past-neither h = by (ltb imageMost (b .0)) refl (ltb imageMost (e .0)) refl h
     where
-      by : (x : Bool) → ltb imageMost b ≡ x → (y : Bool) → ltb imageMost e ≡ y → x || y ≡ false → (b ≤ imageMost) × (e ≤ imageMost)
-      by false p false q k = (ltb-false imageMost b p, ltb-false imageMost e q)
+      by : (x : Bool) → ltb imageMost (b .0) ≡ x → (y : Bool) → ltb imageMost (e .0) ≡ y → x || y ≡ false → (b .0 ≤ imageMost) × (e .0 ≤ imageMost)
+      by false p false q k = (ltb-false imageMost (b .0) p, ltb-false imageMost (e .0) q)
       by false p true q k = let w : _≡_ {A = ℕ} 0 1 = cc in absurd (omega arith)
       by true p false q k = let w : _≡_ {A = ℕ} 0 1 = cc in absurd (omega arith)
       by true p true q k = let w : _≡_ {A = ℕ} 0 1 = cc in absurd (omega arith)

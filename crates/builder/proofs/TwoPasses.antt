@@ -6,24 +6,25 @@
 --   passed-ended, passed-past  what a pass answers, by cases
 use Prim.Native.Nat.{ℕ, _+_, _≤_}
 use mathlib.Core.Path.{_≡_, ap, sym, subst, _∙_}
-use mathlib.Core.Bool.{false}
 use mathlib.Core.List.{List}
 use lib.ListN.{length}
+use Rattle.format.specs.declared.ImagePlace.{ImagePlace}
+use Rattle.format.specs.declared.IndexPlace.{IndexPlace}
 use Rattle.format.specs.declared.Refusal.{Refusal}
 use Rattle.format.specs.declared.Refusal.the-variants.{ImageTooLong}
 use Rattle.format.specs.declared.Written.{Written}
-use Rattle.format.specs.Limits.{headerSize, imageMost}
+use Rattle.format.specs.Limits.{imageMost}
 use Rattle.format.specs.Bytes.{overwrite}
 use Rattle.format.specs.Meaning.{Meaning}
 use Rattle.format.specs.Writer.{writerImage}
 use Rattle.format.specs.Acts.{laid, imageResult, writtenSays, sized}
-use Rattle.builder.specs.Steps.{Closed, seriesEnd}
-use Rattle.builder.specs.Passes.{Past, Measured}
+use Rattle.builder.specs.declared.Mode.{Mode}
+use Rattle.builder.specs.Steps.{Closed, seriesEnd, firstBlock, firstHead}
+use Rattle.builder.specs.Passes.{Past, PassedAs, Measured}
 use Rattle.builder.proofs.Images.{measured-past, measured-blocks, measured}
-use Rattle.writer.specs.declared.Passed.{Passed}
-use Rattle.writer.specs.Judging.{judged}
-use Rattle.writer.specs.Adding.{PassedAs}
-use Rattle.writer.proofs.Judges.{Answers, judged-answers, judged-long}
+use Rattle.builder.specs.declared.Passed.{Passed}
+use Rattle.builder.specs.Judging.{judged}
+use Rattle.builder.proofs.Judges.{Answers, judged-answers, judged-long}
 use Rattle.format.specs.Refusals.{answerOf}
 
 module _ (m : Meaning) (out : List ℕ) where
@@ -34,14 +35,14 @@ module _ (m : Meaning) (out : List ℕ) where
   answers : Answers m out (judged (length (writerImage m)) (length out))
   answers = judged-answers m out
 
-  pub image-long : (lent : List ℕ) → Past (seriesEnd false m headerSize 0 lent) → Right (Written.Refused ImageTooLong) out
+  pub image-long : (lent : List ℕ) → Past (seriesEnd Mode.Measure m firstBlock firstHead lent) → Right (Written.Refused ImageTooLong) out
   image-long lent h =
       let long = judged-long (length (writerImage m)) (length out) (measured-past m lent h) in
       (ap writtenSays (sym long) ∙ answers .says, sym (answers .left ImageTooLong long))
 
   -- the first pass ended, and its length was judged
-  module _ (block entry : ℕ) (bytes lent : List ℕ) (c : _≡_ {A = Closed} (record { block = block; entry = entry; bytes = bytes }) (seriesEnd false m headerSize 0 lent))
-      (answer : Written) (says : answer ≡ judged (block + entry + 8) (length out)) where
+  module _ (block : ImagePlace) (entry : IndexPlace) (bytes lent : List ℕ) (c : _≡_ {A = Closed} (record { block = block; entry = entry; bytes = bytes }) (seriesEnd Mode.Measure m firstBlock firstHead lent))
+      (answer : Written) (says : answer ≡ judged (block .0 + entry .0 + 8) (length out)) where
     is-judged : answer ≡ judged (length (writerImage m)) (length out)
     is-judged = says ∙ ap (λ (n : ℕ). judged n (length out)) (measured m block entry bytes lent c)
 
@@ -61,7 +62,7 @@ module _ (m : Meaning) (out : List ℕ) where
 -- ---- what a pass answers
 
 module _ (whole : Closed) (r : Passed) (out : List ℕ) where
-  pub passed-ended : (b e : ℕ) → r ≡ Passed.Ended b e → PassedAs whole r out → _≡_ {A = Closed} (record { block = b; entry = e; bytes = out }) whole
+  pub passed-ended : (b : ImagePlace) (e : IndexPlace) → r ≡ Passed.Ended b e → PassedAs whole r out → _≡_ {A = Closed} (record { block = b; entry = e; bytes = out }) whole
   passed-ended b e f h = subst (λ (x : Passed). PassedAs whole x out) f h
 
   pub passed-past : r ≡ Passed.GivenUp → PassedAs whole r out → Past whole
