@@ -1,8 +1,8 @@
 -- Each act refuses exactly by its faults: it is a chain of steps, each with its own.
 use Prim.Native.Nat.{ℕ, _+_, _≤_}
-use mathlib.Core.Path.{_≡_, refl, sym, ap, _∙_}
+use mathlib.Core.Path.{_≡_, refl, sym, ap, subst, _∙_}
 use mathlib.Core.Logic.{_↔_, _⊎_, inl, inr, ⊎-elim}
-use mathlib.Core.Bool.{Bool, true, false, not, _&&_}
+use mathlib.Core.Bool.{true, false, not, _&&_}
 use mathlib.Core.List.{List, [], _∷_}
 use mathlib.Core.Option.{Option, none, some}
 use native.Mathlib.Omega.{arith}
@@ -14,9 +14,10 @@ use Rattle.format.specs.declared.Entry.{Entry}
 use Rattle.format.specs.declared.Refusal.the-variants.{NoSuchKey, NoEntry, ShortBuffer, BadRoll, KindClash, ImageTooLong, NoPoint}
 use Rattle.format.specs.Limits.{imageMost}
 use Rattle.format.specs.Choice.{sameList, Each}
-use Rattle.format.specs.Refusals.{Result, ok, refused, _>>=_, refuses, answerOf}
+use Rattle.format.specs.Refusals.{Result, ok, refused, _>>=_, require, refuses, answerOf}
 use Rattle.format.specs.Bytes.{AllBytes}
 use Rattle.format.specs.Meaning.{Point, Meaning, valueAt}
+use Rattle.format.specs.WellFormed.{wellFormed}
 use Rattle.format.specs.Block.{readBlock}
 use Rattle.format.specs.Index.{IndexKey}
 use Rattle.format.specs.File.{readIndex, readFile, blockOf}
@@ -26,8 +27,12 @@ use Rattle.format.specs.Writer.{writerImage}
 use Rattle.format.specs.Merge.{merge, kindsClash}
 use Rattle.format.specs.Acts.{checkResult, findAnswer, readBlockResult, readPointResult, fitted, imageResult, writeResult, unrollResult, mergeResult}
 use Rattle.format.proofs.AllBelow.{below-take, below-drop}
-use Rattle.format.proofs.Answers.{answer-ok}
+use Rattle.format.proofs.Tests.{true-or-false, never}
+use Rattle.format.proofs.Answers.{refuses-path, answer-ok}
 use Rattle.format.proofs.Results.{bind-ok, ok-path, refused-not, Only, only-choice}
+use Rattle.merging.proofs.Lookups.{ordered}
+use Rattle.merging.proofs.MergeLaws.{merge-wellFormed}
+use Rattle.file_laws.proofs.FilesAccepted.{file-accepted}
 use Rattle.roll.proofs.Rolls.{roll-refused}
 use Rattle.acceptance.specs.Files.{Keeps}
 use Rattle.acceptance.specs.Indexes.{KeepsIndex}
@@ -35,10 +40,12 @@ use Rattle.acceptance.specs.Rolls.{KeepsRoll}
 use Rattle.acceptance.proofs.Blocks.{blockFor, block-read, read-block}
 use Rattle.acceptance.proofs.Indexes.{entries-inside, laid-read, keeps-index}
 use Rattle.acceptance.proofs.Accepted.{keeps-exactly}
+use Rattle.theorems.specs.Points.{OneKind, TwoKinds}
 use Rattle.theorems.specs.Faults.{Unless, nothing, blockFault, indexFault, seriesFault, fault}
 use Rattle.theorems.specs.Exactly.{searchFault, findFault, Covering, BlockHolds, oneBlockFault, readBlockFault, readPointFault, imageFault, writeFault, unrollFault, mergedFault, mergeFault, Exactly}
 use Rattle.theorems.proofs.Steps.{Exact, Refuses, ok-exactly, leb-exactly, both-exactly, require-exactly, some-exactly, given-exactly, after, within, only-number}
 use Rattle.theorems.proofs.Members.{each-mem}
+use Rattle.theorems.proofs.MergedPoints.{merged-points, merge-of, one-kind, two-kinds}
 use Rattle.theorems.proofs.Ours.{roll-reads, reads-roll}
 use Rattle.theorems.proofs.IndexFaults.{index-exactly}
 use Rattle.theorems.proofs.BlockFaults.{block-exactly, series-exactly}
@@ -186,9 +193,37 @@ unroll-exactly image buffer all =
     given-exactly (fault image) (Keeps image) (λ m. Unless (length (writerRoll m) ≤ length buffer) 19 nothing) (readFile image) _ (file-exactly image all)
     (keeps-exactly image all) (λ m is. fitted-exactly buffer (writerRoll m))
 
-clash-exactly : (c : Bool) → (not c ≡ true) ↔ (c ≡ false)
-clash-exactly true = (λ e. sym e, λ e. sym e)
-clash-exactly false = (λ e. refl, λ e. refl)
+-- two meanings in order: a key has two kinds, or our writer's image of their merge is left
+module _ (o n : Meaning) (p : wellFormed o ≡ true) (q : wellFormed n ≡ true) (buffer : List ℕ) (k : ℕ) where
+  abbrev result : Result (List ℕ)
+  result = require (not (kindsClash o n)) KindClash 0 >>= λ _. imageResult (merge o n) buffer
+
+  two : (kindsClash o n ≡ true) ↔ TwoKinds o n
+  two = two-kinds o n (ordered o p) (ordered n q)
+
+  one : (kindsClash o n ≡ false) ↔ OneKind o n
+  one = one-kind o n (ordered o p) (ordered n q)
+
+  clashing : kindsClash o n ≡ true → Refuses result k ↔ mergedFault o n buffer k
+  clashing c =
+      let is : result ≡ refused KindClash 0 = rw c in (
+        λ e. inl (two .0 c, sym (refuses-path (sym (ap answerOf is) ∙ e))),
+        ⊎-elim (λ (kinds, h). ap answerOf is ∙ ap refuses (sym h)) (λ (kinds, rest). never c (one .1 kinds)),
+      )
+
+  agreeing : kindsClash o n ≡ false → Refuses result k ↔ mergedFault o n buffer k
+  agreeing c =
+      let is : result ≡ imageResult (merge o n) buffer = rw c in
+      let exactly = image-exactly (merge o n) buffer k in (
+        λ e. inr (one .0 c, (merge o n, merge-wellFormed o n p q c, merged-points o n p q c, exactly .0 (sym (ap answerOf is) ∙ e))),
+        ⊎-elim
+            (λ (kinds, h). never (two .1 kinds) c)
+            (λ (kinds, (w, good, points, f)).
+            ap answerOf is ∙ exactly .1 (subst (λ (m : Meaning). imageFault m buffer k) (sym (merge-of o n w p q c good points)) f)),
+      )
+
+  merged-exactly : Refuses result k ↔ mergedFault o n buffer k
+  merged-exactly = ⊎-elim clashing agreeing (true-or-false (kindsClash o n))
 
 merge-exactly : (older newer buffer : List ℕ) → AllBytes older → AllBytes newer → Exact (mergeResult older newer buffer) (mergeFault older newer buffer)
 unfolding mergeResult
@@ -196,7 +231,7 @@ merge-exactly older newer buffer all₁ all₂ =
     given-exactly (fault older) (Keeps older) (λ o n. fault newer n ⊎ ((m : Meaning) × Keeps newer m × mergedFault o m buffer n)) (readFile older) _
     (file-exactly older all₁) (keeps-exactly older all₁)
     (λ o is. given-exactly (fault newer) (Keeps newer) (λ m. mergedFault o m buffer) (readFile newer) _ (file-exactly newer all₂) (keeps-exactly newer all₂)
-    (λ m is. require-exactly KindClash 0 (not (kindsClash o m)) _ (clash-exactly (kindsClash o m)) (image-exactly (merge o m) buffer)))
+    (λ m it. merged-exactly o m (file-accepted older all₁ o is) (file-accepted newer all₂ m it) buffer))
 
 pub exactly : Exactly
 exactly = record {

@@ -8,7 +8,7 @@
 use Prim.Native.Nat.{ℕ, _≤_}
 use mathlib.Core.Path.{_≡_}
 use mathlib.Core.Logic.{_↔_, _⊎_}
-use mathlib.Core.Bool.{false}
+use mathlib.Core.Bool.{true}
 use mathlib.Core.List.{List}
 use mathlib.Core.Option.{some}
 use lib.ListN.{length}
@@ -16,17 +16,18 @@ use lib.IntN.{ℤ}
 use Rattle.format.specs.declared.Entry.{Entry}
 use Rattle.format.specs.Refusals.{refuses}
 use Rattle.format.specs.Bytes.{AllBytes}
-use Rattle.format.specs.Meaning.{Point, Meaning, valueAt}
+use Rattle.format.specs.Meaning.{Point, Meaning, FilePoint, valueAt}
+use Rattle.format.specs.WellFormed.{wellFormed}
 use Rattle.format.specs.Index.{IndexKey}
 use Rattle.format.specs.File.{blockOf}
 use Rattle.format.specs.Roll.{writerRoll}
 use Rattle.format.specs.Writer.{writerImage}
-use Rattle.format.specs.Merge.{merge, kindsClash}
 use Rattle.format.specs.Acts.{checkAnswer, findAnswer, readBlockAnswer, readPointAnswer, writeAnswer, unrollAnswer, mergeAnswer}
 use Rattle.acceptance.specs.Blocks.{KeepsBlock}
 use Rattle.acceptance.specs.Files.{Keeps}
 use Rattle.acceptance.specs.Indexes.{KeepsIndex}
 use Rattle.acceptance.specs.Rolls.{KeepsRoll}
+use Rattle.theorems.specs.Points.{Has, MergedPoint, OneKind, TwoKinds}
 use Rattle.theorems.specs.Finds.{HasKey, EntryFor}
 use Rattle.theorems.specs.Faults.{Unless, UnlessSome, nothing, blockFault, indexFault, fault}
 
@@ -75,9 +76,11 @@ abbrev pub unrollFault : (image buffer : List ℕ) → ℕ → Type 0
 unrollFault image buffer n =
     fault image n ⊎ ((m : Meaning) × Keeps image m × Unless (length (writerRoll m) ≤ length buffer) 19 nothing n)
 
--- "merge: a key has two kinds"
+-- "merge: a key has two kinds"; or each has one, and our writer's image of the merged points is judged
 abbrev pub mergedFault : (older newer : Meaning) → (buffer : List ℕ) → ℕ → Type 0
-mergedFault o m buffer = Unless (kindsClash o m ≡ false) 21 (imageFault (merge o m) buffer)
+mergedFault o m buffer n =
+    (TwoKinds o m × (n ≡ 21))
+    ⊎ (OneKind o m × ((w : Meaning) × (wellFormed w ≡ true) × ((x : FilePoint) → Has w x ↔ MergedPoint o m x) × imageFault w buffer n))
 
 -- "Merge: the older image's full check, the newer's, 21, 22, 19."
 abbrev pub mergeFault : (older newer buffer : List ℕ) → ℕ → Type 0
