@@ -50,14 +50,14 @@ enum tsm_refusal {
     TSM_IMAGE_LENGTH = 1,     /* the image is shorter than 13 bytes or longer than 1,048,576 */
     TSM_MAGIC = 2,            /* the image does not start with 16 D1 16 D1 */
     TSM_VERSION = 3,          /* the version is not 1 */
-    TSM_INDEX_START = 4,      /* the start of the index lies outside the image */
+    TSM_INDEX_START = 4,      /* the index starts inside the header, or past the start of the footer */
     TSM_ENTRY_PAST_INDEX = 5, /* an index entry runs past the end of the index */
     TSM_KEY_LENGTH = 6,       /* a key is empty or longer than 1,024 bytes */
     TSM_UNKNOWN_KIND = 7,     /* the kind of a key is neither integer nor boolean */
     TSM_NO_BLOCKS = 8,        /* a key has no blocks */
     TSM_KEY_ORDER = 9,        /* a key is not above the key before it */
     TSM_TIME_ORDER = 10,      /* the times of an index entry are not in order */
-    TSM_BLOCK_PLACE = 11,     /* a block does not lie where the one before it ends, or the last not up to the index */
+    TSM_BLOCK_PLACE = 11,     /* a block is misplaced or too small, or the blocks do not end where the index starts */
     TSM_CHECKSUM = 12,        /* the checksum of a block is wrong */
     TSM_BLOCK_HEAD = 13,      /* the head of a block is malformed, or a section of it is empty */
     TSM_TIMESTAMPS = 14,      /* the timestamps of a block are malformed */
@@ -142,7 +142,8 @@ struct tsm_point tsm_read_point(const uint8_t *image, size_t image_len, const ui
  * Refusals: 20, 22, 19. */
 struct tsm_written tsm_write(const uint8_t *roll, size_t roll_len, uint8_t *out, size_t out_len);
 
-/* Checks an image in full, and writes it as a roll to the first bytes of out. A roll may be longer than its image.
+/* Checks an image in full, and writes it as a roll to the first bytes of out. A roll may be longer than its image; a
+ * buffer of TSM_ROLL_ROOM(keys, points) bytes (tsm_roll.h), with the totals of tsm_check, is long enough.
  * Refusals: 1 to 16, 19. */
 struct tsm_written tsm_unroll(const uint8_t *image, size_t image_len, uint8_t *out, size_t out_len);
 

@@ -17,12 +17,15 @@ pub struct Stack {
     pub reference: usize,
 }
 
-/// Bytes of stack that an act of the library may use.
+/// Bytes of stack that an act of the library may use, as include/tsm.h says.
 pub fn stack_limit(act: &str) -> usize {
-    match act {
-        "merge" => 96 * 1024,
-        _ => 64 * 1024,
-    }
+    let kibibytes = match act {
+        "find" => 2,
+        "write" => 28,
+        "merge" => 68,
+        _ => 20,
+    };
+    kibibytes * 1024
 }
 
 /// A figure of tsm1: what it is, the case of ours that is nearest, and nanoseconds for each unit.

@@ -13,6 +13,8 @@ int main(int argc, char **argv)
     if (!file)
         return fputs("usage: read_point FILE KEY TIME\n", stderr), 2;
     size_t len = fread(image, 1, sizeof image, file);
+    if (ferror(file))
+        return perror(argv[1]), 2;
     struct tsm_point point =
         tsm_read_point(image, len, (const uint8_t *)argv[2], strlen(argv[2]), strtoll(argv[3], NULL, 10));
     if (point.answer.number != TSM_OK)

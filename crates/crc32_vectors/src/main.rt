@@ -1,5 +1,6 @@
 // Published vectors of CRC-32, run through the proved checksum, a line for each: the check value of the catalogue of CRCs,
-// the test messages of RFC 1321 and RFC 3720, and the pangram. Floor 3: it stands on crc32.
+// the examples of AUTOSAR's CRC library, and the test messages of RFC 1321 and RFC 3720 and the pangram, with the sums that
+// zlib gives. Floor 3: it stands on crc32.
 ghost use mathlib.Core.Path.{_≡_};
 ghost use Rattle.format.specs.Crc32.{crc32};
 use libc::STDOUT_FILENO;
@@ -12,6 +13,17 @@ fn shown(bytes: &[u8]) -> u32
     io::print_hex(STDOUT_FILENO, sum as u64, 8);
     io::write_all(STDOUT_FILENO, b"\n");
     sum
+}
+
+// The examples of AUTOSAR's CRC library, for the CRC-32 of Ethernet.
+fn autosar() {
+    shown(&[0x00, 0x00, 0x00, 0x00]);
+    shown(&[0xF2, 0x01, 0x83]);
+    shown(&[0x0F, 0xAA, 0x00, 0x55]);
+    shown(&[0x00, 0xFF, 0x55, 0x11]);
+    shown(&[0x33, 0x22, 0x55, 0xAA, 0xBB, 0xCC, 0xDD, 0xEE, 0xFF]);
+    shown(&[0x92, 0x6B, 0x55]);
+    shown(&[0xFF, 0xFF, 0xFF, 0xFF]);
 }
 
 // Up to 39 bytes, which are taken eight and one at a time.
@@ -40,6 +52,7 @@ fn long() {
 }
 
 fn main() {
+    autosar();
     short();
     long();
 }

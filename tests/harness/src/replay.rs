@@ -3,6 +3,7 @@
 //!
 //! Case and answer lines are those of `conformance/README.md`; a refusal is told by its number.
 
+use std::cell::Cell as Mutable;
 use std::env;
 use std::fmt::Display;
 use std::io::Write;
@@ -36,13 +37,33 @@ const ACTS: &[(&str, Act)] = &[
     ("program", |_, f| program(&f.bytes(1)?)),
 ];
 
-/// The fields of a case line.
-pub struct Fields<'a>(Vec<&'a str>);
+/// The fields of a case line, and how many of them, from the first on, were asked for.
+pub struct Fields<'a> {
+    fields: Vec<&'a str>,
+    asked: Mutable<usize>,
+}
 
-impl Fields<'_> {
-    fn field(&self, place: usize) -> Result<&str, Fault> {
-        let field = self.0.get(place).copied();
+impl<'a> Fields<'a> {
+    fn of(line: &'a str) -> Fields<'a> {
+        Fields {
+            fields: line.split(' ').collect(),
+            asked: Mutable::new(0),
+        }
+    }
+
+    fn field(&self, place: usize) -> Result<&'a str, Fault> {
+        self.asked.set(self.asked.get().max(place + 1));
+        let field = self.fields.get(place).copied();
         field.ok_or_else(|| format!("field {place} is missing"))
+    }
+
+    /// A line has no more fields than its act asks for.
+    fn used_up(&self) -> Result<(), Fault> {
+        let asked = self.asked.get();
+        match self.fields.len() <= asked {
+            true => Ok(()),
+            false => Err(format!("field {asked} is one too many")),
+        }
     }
 
     fn bytes(&self, place: usize) -> Result<Vec<u8>, Fault> {
@@ -80,11 +101,12 @@ impl Replay {
 
     /// The answer line to a case line.
     pub fn answer(&mut self, line: &str) -> Result<String, Fault> {
-        let fields = Fields(line.split(' ').collect());
+        let fields = Fields::of(line);
         let name = fields.field(0)?;
         let act = ACTS.iter().find(|(act, _)| *act == name);
         let (_, act) = act.ok_or_else(|| format!("no act is called {name:?}"))?;
-        act(self, &fields)
+        let answer = act(self, &fields)?;
+        fields.used_up().map(|()| answer)
     }
 
     /// Lends the bytes of the fields `inputs`, and outputs of the lengths in the other fields.
@@ -343,7 +365,7 @@ mod tests {
         ];
         for (act, told, fault) in acts {
             let mut replay = Replay::new(Guarded::After);
-            let fields = Fields(vec!["lay", "20"]);
+            let fields = Fields::of("lay 20");
             let answer = replay.call(&fields, [], [1], [], |[], [out], []| {
                 act(out);
                 told

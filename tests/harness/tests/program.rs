@@ -204,6 +204,38 @@ fn output_that_cannot_be_written() {
     }
 }
 
+/// A write that fails after a part of the image was taken: the beginning stays, and standard error
+/// is told.
+#[cfg(target_os = "linux")]
+#[test]
+fn output_that_breaks_off() {
+    let roll = many_keys_roll(100);
+    let image = image(&roll);
+    let folder = std::env::temp_dir().join(format!("tsm-program-{}", std::process::id()));
+    std::fs::create_dir_all(&folder).expect("a folder");
+    let (input, output) = (folder.join("roll"), folder.join("image"));
+    std::fs::write(&input, &roll).expect("a file");
+    for program in programs() {
+        // A file of one block of 512 bytes at most; the signal that says so is not heard.
+        let shell = Command::new("sh")
+            .arg("-c")
+            .arg("trap '' XFSZ; ulimit -f 1; exec \"$0\" <\"$1\" >\"$2\"")
+            .args([&program, &input, &output])
+            .output();
+        let shell = shell.expect("a shell");
+        let written = std::fs::read(&output).expect("a file");
+        assert!(
+            !written.is_empty() && written.len() < image.len() && image.starts_with(&written),
+            "{} writes {} of {} bytes",
+            program.display(),
+            written.len(),
+            image.len()
+        );
+        expect_failure(&program, shell);
+    }
+    std::fs::remove_dir_all(&folder).expect("the folder goes");
+}
+
 /// Standard input or output that is closed. (The reference's is opened again by Rust's runtime.)
 #[cfg(unix)]
 #[test]

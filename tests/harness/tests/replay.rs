@@ -62,6 +62,7 @@ fn lines_that_are_no_cases() {
         ("check 0g", "field 1 is no bytes in hex"),
         ("check 012", "field 1 is no bytes in hex"),
         ("find - -", "field 3 is missing"),
+        ("check - 5", "field 2 is one too many"),
         ("write - many", "field 2: invalid digit found in string"),
     ] {
         assert_eq!(replay.answer(line).unwrap_err(), fault);

@@ -1,6 +1,5 @@
 -- `timestamps_writer::find_exponent` meets its contract: without a difference it is 12, and where ten does not divide the first it is 0.
 use borrow.Author.Needs.{needs}
-use mathlib.Core.Path.{_≡_}
 use native.Mathlib.Omega.{arith}
 use Rattle.timestamps_writer.proofs.Exponents.{find-nothing, find-first}
 use Rattle.timestamps_writer.proofs.find_exponent.Statement.{statement}
