@@ -72,6 +72,25 @@ pub struct Case {
 /// The two cases that read 18,078,000 points: act and line in `big`.
 const HUGE: [(&str, usize); 2] = [("check", 7), ("unroll", 4)];
 
+/// The acts that have cases, besides the program.
+pub const ACTS: [&str; 7] = [
+    "check",
+    "find",
+    "read_block",
+    "read_point",
+    "write",
+    "unroll",
+    "merge",
+];
+
+/// An answer without the place of a refusal, which the C interface does not give.
+pub fn without_place(answer: &str) -> String {
+    match answer.strip_prefix("refused ") {
+        Some(rest) => format!("refused {}", rest.split(' ').next().unwrap_or_default()),
+        None => answer.to_string(),
+    }
+}
+
 /// All cases of an act, the large ones last.
 pub fn cases(act: &str) -> Vec<Case> {
     let small = pairs(

@@ -8,16 +8,6 @@ use tsm_harness::trial::Trial;
 use tsm_reference::{check, find, merge, read_block, read_point, unroll, write};
 use tsm_reference::{MergeRefusal, Refusal, Side};
 
-const ACTS: [&str; 7] = [
-    "check",
-    "find",
-    "read_block",
-    "read_point",
-    "write",
-    "unroll",
-    "merge",
-];
-
 /// The reference also says where it broke.
 #[test]
 fn reference() {
@@ -36,15 +26,7 @@ mod library {
 
     fn replay_in(memory: &dyn Memory) {
         let mut trial = Trial::new(&Library, memory);
-        replay(without_place, |call| trial.run(call).to_string());
-    }
-
-    /// The answer without the place of a refusal, which the C interface does not give.
-    fn without_place(answer: &str) -> String {
-        match answer.strip_prefix("refused ") {
-            Some(rest) => format!("refused {}", rest.split(' ').next().unwrap_or_default()),
-            None => answer.to_string(),
-        }
+        replay(data::without_place, |call| trial.run(call).to_string());
     }
 
     #[test]
@@ -67,7 +49,7 @@ mod library {
 fn replay(expected: impl Fn(&str) -> String, mut run: impl FnMut(Call) -> String) {
     let with_huge = data::number_from_env("TSM_HUGE", 0) != 0;
     let (mut replayed, mut wrong) = (0, 0);
-    for case in ACTS.into_iter().flat_map(data::cases) {
+    for case in data::ACTS.into_iter().flat_map(data::cases) {
         if case.is_huge && !with_huge {
             continue;
         }

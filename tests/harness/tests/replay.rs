@@ -5,32 +5,14 @@ use tsm_harness::data::{self, shortened};
 use tsm_harness::library::Guarded;
 use tsm_harness::replay::Replay;
 
-const CASES: [&str; 8] = [
-    "check",
-    "find",
-    "read_block",
-    "read_point",
-    "write",
-    "unroll",
-    "merge",
-    "program",
-];
-
-/// The answer without the place of a refusal, which the C interface does not give.
-fn without_place(answer: &str) -> String {
-    match answer.strip_prefix("refused ") {
-        Some(rest) => format!("refused {}", rest.split(' ').next().unwrap_or_default()),
-        None => answer.to_string(),
-    }
-}
-
 fn replay_all(guarded: Guarded) {
     let mut replay = Replay::new(guarded);
     let mut replayed = 0;
-    for case in CASES.into_iter().flat_map(data::cases) {
+    let names = data::ACTS.into_iter().chain(["program"]);
+    for case in names.flat_map(data::cases) {
         let answer = replay.answer(&case.case);
         let answer = answer.unwrap_or_else(|fault| panic!("{}: {fault}", case.name));
-        let expected = without_place(&case.answer);
+        let expected = data::without_place(&case.answer);
         assert!(
             answer == expected,
             "{}: {} and not {}",
