@@ -399,7 +399,11 @@ static void worked_pieces(void)
                image_of(TSM_INTEGER, "10 00 00 00 00 00 00 00 00 F0 00 00 00 00 00 00 0A",
                         "00 FF FF FF FF FF FF FF FF 00 00 00 00 00 00 00 01", 0, 10),
                TSM_INTEGER, 2, tens, (int64_t[]){low, high});
-    has_points("times 0, 1, 2^60",
+    has_points("times 0, 1, 2^60, packed",
+               image_of(TSM_BOOLEAN, "10 00 00 00 00 00 00 00 00 F0 00 00 00 00 00 00 01 FF FF FF FF FF FF FF FF", "10 03 80", 0,
+                        (int64_t)1 << 60),
+               TSM_BOOLEAN, 3, (int64_t[]){0, 1, (int64_t)1 << 60}, (int64_t[]){1, 0, 0});
+    has_points("times 0, 1, 2^60, raw",
                image_of(TSM_BOOLEAN, "00 00 00 00 00 00 00 00 00 00 00 00 00 00 00 00 01 0F FF FF FF FF FF FF FF", "10 03 80", 0,
                         (int64_t)1 << 60),
                TSM_BOOLEAN, 3, (int64_t[]){0, 1, (int64_t)1 << 60}, (int64_t[]){1, 0, 0});
@@ -495,6 +499,9 @@ static void rolls(void)
     written_as("true, false, false", hex("01 61 02 03 00 01 0A 00 0A 00"), sample());
     written_as("7 at -5", hex("01 61 01 01 09 0E"),
                image_of(TSM_INTEGER, "1C FF FF FF FF FF FF FF FB", "10 00 00 00 00 00 00 00 0E", -5, -5));
+    written_as("times 0, 1, 2^60", hex("01 61 02 03 00 01 01 00 FF FF FF FF FF FF FF FF 0F 00"),
+               image_of(TSM_BOOLEAN, "10 00 00 00 00 00 00 00 00 F0 00 00 00 00 00 00 01 FF FF FF FF FF FF FF FF", "10 03 80", 0,
+                        (int64_t)1 << 60));
 
     about = "bad rolls";
     EXPECT(write_refuses(hex("00"), BYTES, TSM_BAD_ROLL));

@@ -9,9 +9,9 @@ use mathlib.Core.List.{List, [], _∷_, _++_, flatMap}
 use native.Mathlib.Omega.{arith}
 use lib.IntN.{ℤ}
 use lib.ListN.{length, getD, length-map}
-use lib.Dec.{ltb, leb, lit<}
+use lib.Dec.{leb, lit<}
 use borrow.Author.Tests.{leb-true}
-use Rattle.format.specs.Limits.{exponentMost, packedBelow}
+use Rattle.format.specs.Limits.{exponentMost, packedMost}
 use Rattle.format.specs.Choice.{if_then_else_, every, allEqual}
 use Rattle.format.specs.Bytes.{bigBytes, AllBytes}
 use Rattle.format.specs.Signed.{pattern}
@@ -87,7 +87,7 @@ timesSection-some [] some = absurd (omega arith)
 timesSection-some (t ∷ ts) some =
     let ds = differencesFrom t ts in
     let e = exponent exponentMost ds in
-    some-by (leb 1 (length ds) && allEqual ds) (every (λ d. ltb (d / 10 ^ e) packedBelow) ds) _ _ _ _ _ _
+    some-by (leb 1 (length ds) && allEqual ds) (every (λ d. leb (d / 10 ^ e) packedMost) ds) _ _ _ _ _ _
 
 pub timesSection-most : (ts : List ℤ) → 1 ≤ length ts → length (timesSection ts) ≤ length ts * 8 + 13
 unfolding timesSection

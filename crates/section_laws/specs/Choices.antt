@@ -5,9 +5,9 @@
 use Prim.Native.Nat.{ℕ, _/_, _^_}
 use mathlib.Core.Bool.{Bool, _&&_}
 use mathlib.Core.List.{List}
-use lib.Dec.{ltb, leb}
+use lib.Dec.{leb}
 use lib.ListN.{length}
-use Rattle.format.specs.Limits.{packedBelow}
+use Rattle.format.specs.Limits.{packedMost}
 use Rattle.format.specs.Choice.{every, allEqual}
 
 -- at least so many numbers, all equal to the first
@@ -16,8 +16,8 @@ repeats least xs = leb least (length xs) && allEqual xs
 
 -- numbers are small enough to be packed
 abbrev pub small : List ℕ → Bool
-small xs = every (λ x. ltb x packedBelow) xs
+small xs = every (λ x. leb x packedMost) xs
 
 -- differences divided by 10^e are small enough to be packed
 abbrev pub packable : (e : ℕ) → List ℕ → Bool
-packable e ds = every (λ d. ltb (d / 10 ^ e) packedBelow) ds
+packable e ds = every (λ d. leb (d / 10 ^ e) packedMost) ds

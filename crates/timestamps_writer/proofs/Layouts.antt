@@ -12,12 +12,11 @@ use mathlib.Core.Bool.{Bool, true, _&&_}
 use mathlib.Core.List.{List, [], _∷_, _++_, map, flatMap}
 use Prim.Native.Nat.{ℕ, zero, suc, _+_, _*_, _/_, _^_, _≤_, _<_}
 use native.Mathlib.Omega.{arith}
-use borrow.Author.Tests.{leb-true, lt-ltb, ltb-true}
-use lib.Dec.{leb, ltb}
+use borrow.Author.Tests.{leb-true}
+use lib.Dec.{leb}
 use lib.IntN.{ℤ, pos}
 use lib.ListN.{length, take, getD, length-map, length-append}
 use lib.Seq.{length-take-le, getD-take}
-use Rattle.format.specs.Limits.{packedBelow}
 use Rattle.format.specs.Choice.{every, allEqual}
 use Rattle.format.specs.Bytes.{bigBytes, overwrite, splice}
 use Rattle.format.specs.Signed.{pattern}
@@ -26,12 +25,12 @@ use Rattle.format.specs.Simple8b.{packedBytes}
 use Rattle.format.specs.Timestamps.{exponent, timesHead, timesWith, timesSection}
 use Rattle.numbers.proofs.BigEndian.{bigBytes-length}
 use Rattle.format.proofs.Splices.{laid-two}
-use Rattle.format.proofs.Tests.{both-left, every-imply, every-map}
+use Rattle.format.proofs.Tests.{both-left}
 use Rattle.section_laws.specs.Choices.{packable}
 use Rattle.numbers.proofs.Varints.{varint-length-most}
 use Rattle.section_laws.proofs.WordsOfBytes.{flatBytes-length}
 use Rattle.section_laws.proofs.PackedWords.{packedBytes-most}
-use Rattle.section_laws.proofs.Forms.{head-length}
+use Rattle.section_laws.proofs.Forms.{head-length, packable-fits}
 use Rattle.section_laws.proofs.Differences.{differencesFrom-length}
 use Rattle.section_laws.proofs.Exponents.{exponent-most}
 use Rattle.section_laws.proofs.Timestamps.{timesWith-repeated, timesWith-packed, timesWith-raw}
@@ -101,9 +100,7 @@ module _ (ds numbers : List ℕ) where
   layable (Packed e) l =
       let fits : packable e ds ≡ true = rw (l .2) (l .1) in (
         omega (arith, l .2, exponent-most ds 12),
-        rw (l .3)
-            (every-imply (λ x. ltb x packedBelow) (λ x. ltb x (2 ^ 60)) (λ x h. lt-ltb x (2 ^ 60) (omega (arith, ltb-true x packedBelow h)))
-            (map (λ d. d / 10 ^ e) ds) (every-map (λ x. ltb x packedBelow) (λ d. d / 10 ^ e) ds fits)),
+        rw (l .3) (packable-fits e ds fits),
       )
   layable Raw l = tt
 

@@ -69,11 +69,18 @@ pub struct Case {
     pub is_huge: bool,
 }
 
+impl Case {
+    /// The act that is called: the first word.
+    pub fn act(&self) -> &str {
+        self.case.split(' ').next().unwrap_or_default()
+    }
+}
+
 /// The two cases that read 18,078,000 points: act and line in `big`.
 const HUGE: [(&str, usize); 2] = [("check", 7), ("unroll", 4)];
 
-/// The acts that have cases, besides the program.
-pub const ACTS: [&str; 7] = [
+/// The acts that have large cases.
+const ACTS: [&str; 8] = [
     "check",
     "find",
     "read_block",
@@ -81,6 +88,7 @@ pub const ACTS: [&str; 7] = [
     "write",
     "unroll",
     "merge",
+    "program",
 ];
 
 /// An answer without the place of a refusal, which the C interface does not give.
@@ -91,20 +99,24 @@ pub fn without_place(answer: &str) -> String {
     }
 }
 
-/// All cases of an act, the large ones last.
-pub fn cases(act: &str) -> Vec<Case> {
-    let small = pairs(
-        &format!("conformance/cases/{act}.txt"),
-        &format!("conformance/answers/{act}.txt"),
-    );
-    let mut big = pairs(
+/// All cases, the large ones last.
+pub fn cases() -> Vec<Case> {
+    let set = pairs("conformance/cases.txt.gz", "conformance/answers.txt.gz");
+    set.into_iter()
+        .chain(ACTS.into_iter().flat_map(big))
+        .collect()
+}
+
+/// The large cases of an act.
+fn big(act: &str) -> Vec<Case> {
+    let mut cases = pairs(
         &format!("conformance/big/{act}.cases.txt.gz"),
         &format!("conformance/big/{act}.answers.txt.gz"),
     );
     for (_, line) in HUGE.iter().filter(|(huge_act, _)| *huge_act == act) {
-        big[line - 1].is_huge = true;
+        cases[line - 1].is_huge = true;
     }
-    small.into_iter().chain(big).collect()
+    cases
 }
 
 fn pairs(cases: &str, answers: &str) -> Vec<Case> {

@@ -77,8 +77,11 @@ fn expect_in_pieces(program: &Path, roll: &[u8], piece: usize, expected: &[u8]) 
 
 #[test]
 fn conformance_cases() {
+    let mut cases = data::cases();
+    cases.retain(|case| case.act() == "program");
+    assert!(cases.len() > 150);
     for program in programs() {
-        for case in data::cases("program") {
+        for case in &cases {
             let roll = case.case.strip_prefix("program ").expect("a program case");
             let output = case.answer.strip_prefix("stdout ").expect("an output");
             println!("{}", case.name);

@@ -8,8 +8,7 @@ use tsm_harness::replay::Replay;
 fn replay_all(guarded: Guarded) {
     let mut replay = Replay::new(guarded);
     let mut replayed = 0;
-    let names = data::ACTS.into_iter().chain(["program"]);
-    for case in names.flat_map(data::cases) {
+    for case in data::cases() {
         let answer = replay.answer(&case.case);
         let answer = answer.unwrap_or_else(|fault| panic!("{}: {fault}", case.name));
         let expected = data::without_place(&case.answer);
@@ -22,7 +21,7 @@ fn replay_all(guarded: Guarded) {
         );
         replayed += 1;
     }
-    assert_eq!(replayed, 6_544);
+    assert!(replayed > 8_500);
 }
 
 #[test]

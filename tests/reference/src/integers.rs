@@ -96,7 +96,7 @@ pub fn append(values: &[i64], stored: &mut Vec<u64>, out: &mut Vec<u8>) {
         out.extend_from_slice(&first.to_be_bytes());
         varint::append(rest[0], out);
         varint::append(rest.len() as u64, out);
-    } else if stored.iter().all(|&number| number < simple8b::GREATEST) {
+    } else if stored.iter().all(|&number| number <= simple8b::GREATEST) {
         out.push(PACKED);
         out.extend_from_slice(&first.to_be_bytes());
         simple8b::pack(rest, out);
@@ -132,6 +132,16 @@ mod tests {
         ends.extend([0xff; 8]);
         ends.extend([0, 0, 0, 0, 0, 0, 0, 1]);
         assert_eq!(section(&[i64::MIN, i64::MAX]), ends);
+    }
+
+    #[test]
+    fn stored_numbers_above_two_to_the_sixty_less_one_are_raw() {
+        // Stored as 2^60 - 1 and as 2^60, as a difference and as the first value.
+        let (most, more) = (-(1 << 59), 1 << 59);
+        assert_eq!(section(&[0, most])[0], PACKED);
+        assert_eq!(section(&[0, more])[0], RAW);
+        assert_eq!(section(&[most])[0], PACKED);
+        assert_eq!(section(&[more])[0], RAW);
     }
 
     #[test]

@@ -129,7 +129,7 @@ pub fn append(times: &[i64], differences: &mut Vec<u64>, out: &mut Vec<u8>) {
     let exponent = greatest_exponent(differences);
     let scale = POWERS[usize::from(exponent)];
     let greatest = differences.iter().max().map_or(0, |d| d / scale);
-    if greatest < simple8b::GREATEST {
+    if greatest <= simple8b::GREATEST {
         head(PACKED, exponent);
         if scale > 1 {
             differences.iter_mut().for_each(|d| *d /= scale);
@@ -192,9 +192,9 @@ mod tests {
     }
 
     #[test]
-    fn differences_from_two_to_the_sixty_less_one_are_raw() {
-        assert_eq!(section(&[0, 1, 1 << 60])[0], 0x00);
-        assert_eq!(section(&[0, 1, (1 << 60) - 1])[0], 0x10);
+    fn differences_above_two_to_the_sixty_less_one_are_raw() {
+        assert_eq!(section(&[0, 1, (1 << 60) + 1])[0], 0x00);
+        assert_eq!(section(&[0, 1, 1 << 60])[0], 0x10);
     }
 
     #[test]

@@ -7,10 +7,10 @@ use Prim.Native.Nat.{ℕ, zero, suc, _-_, _/_, _^_, _≤_}
 use native.Mathlib.Omega.{arith}
 use denote.Ref.{now}
 use borrow.Author.Tests.{leb-true}
-use lib.Dec.{leb, ltb}
+use lib.Dec.{leb}
 use lib.ListN.{length, take}
 use lib.Seq.{length-take-le}
-use Rattle.format.specs.Limits.{packedBelow}
+use Rattle.format.specs.Limits.{packedMost}
 use Rattle.format.specs.Timestamps.{exponent}
 use Rattle.format.specs.Choice.{allEqual}
 use Rattle.format.proofs.Tests.{both-left}
@@ -67,7 +67,7 @@ second-cells c =
 small-is : (c : tie.After-packable) → packable (exponent 12 (gaps (c .before .before .before .before .before .before .before .before .before .before .before .before .before .before .before .before))) (gaps (c .before .before .before .before .before .before .before .before .before .before .before .before .before .before .before .before)) ≡ c .packable .result
 small-is c =
     ap (λ (e : ℕ). packable e (gaps (c .before .before .before .before .before .before .before .before .before .before .before .before .before .before .before .before))) (sym (exponent-is (c .before .before .before .before .before .before)))
-    ∙ sym (every-mapped (λ x. ltb x packedBelow) (λ d. d / 10 ^ c .before .before .before .before .before .before .find-exponent2 .result) (gaps (c .before .before .before .before .before .before .before .before .before .before .before .before .before .before .before .before)))
+    ∙ sym (every-mapped (λ x. leb x packedMost) (λ d. d / 10 ^ c .before .before .before .before .before .before .find-exponent2 .result) (gaps (c .before .before .before .before .before .before .before .before .before .before .before .before .before .before .before .before)))
     ∙ ap small (sym (second-cells (c .before .before .before .before)))
     ∙ sym (c .packable .ensures)
 
