@@ -1,6 +1,7 @@
 -- A fact of each element of a list, and lists mapped and joined.
 --   each-map, each-both                     of each element, another fact that follows from one, from two
 --   every-each, none-each                   a test that every element passes, or that none does
+--   every-says                              the same, of a test that says a fact
 --   each-append, each-left, each-right, each-flatMap   of joins and their parts
 --   each-image                              of a list that is mapped
 --   ascends-rest                            the order of a list without its first
@@ -36,6 +37,13 @@ module _ {A : Type 0} where
       let rest = every-each p xs in (
         λ e. (parts .0 e .0, rest .0 (parts .0 e .1)),
         λ h. parts .1 (h .0, rest .1 (h .1)),
+      )
+
+  pub every-says : {P : A → Type 0} (p : A → Bool) → ((x : A) → (p x ≡ true) ↔ P x) → (xs : List A) → (every p xs ≡ true) ↔ Each P xs
+  every-says p says xs =
+      let each = every-each p xs in (
+        λ e. each-map (λ x. says x .0) xs (each .0 e),
+        λ h. each .1 (each-map (λ x. says x .1) xs h),
       )
 
   pub none-each : (p : A → Bool) (xs : List A) → (someOf p xs ≡ false) ↔ Each (λ x. p x ≡ false) xs

@@ -1,9 +1,10 @@
 -- The form that our writer takes: its two tests say what the statement says, and each of its three forms states its number.
---   tested      a test that every element passes, as a fact of each
---   alike       the test of equal numbers
---   form-by     the form by two tests
+--   all-equal, alike   the tests of equal numbers
+--   form-by            the form by two tests
+--   largest, one-largest   the exponent of our writer is the one that the statement names
+--   times-form, integers-form   the forms of both sections
 use Prim.Native.Nat.{ℕ, _/_, _%_, _^_, _≤_}
-use mathlib.Core.Path.{_≡_, refl, sym, ap, subst, _∙_}
+use mathlib.Core.Path.{_≡_, refl, sym, _∙_}
 use mathlib.Core.Logic.{_↔_}
 use mathlib.Core.Bool.{Bool, true, false}
 use mathlib.Core.List.{List, [], _∷_}
@@ -11,14 +12,14 @@ use native.Mathlib.Omega.{arith}
 use lib.IntN.{ℤ}
 use lib.ListN.{length}
 use lib.Dec.{eqb, leb}
-use borrow.Author.Tests.{le-leb, leb-true, eqb-true, eq-eqb}
+use borrow.Author.Tests.{eqb-true, eq-eqb}
 use Rattle.format.specs.Limits.{exponentMost, packedMost}
 use Rattle.format.specs.Choice.{every, allEqual, Each}
 use Rattle.format.specs.Timestamps.{differencesFrom, exponent, timesWith, timesSection}
-use Rattle.format.specs.Integers.{storedFrom, stored, storedSection, integersSection}
-use Rattle.format.proofs.Tests.{and-true, never}
-use Rattle.format.proofs.Lists.{each-map, every-each}
-use Rattle.section_laws.specs.Choices.{repeats, small, packable}
+use Rattle.format.specs.Integers.{storedFrom, stored, integersSection}
+use Rattle.format.proofs.Tests.{never}
+use Rattle.format.proofs.Lists.{each-map, every-each, every-says}
+use Rattle.section_laws.specs.Choices.{repeats}
 use Rattle.section_laws.proofs.Forms.{repeating, packing, plain, choice}
 use Rattle.section_laws.proofs.Exponents.{exponent-most, exponent-divides, exponent-largest}
 use Rattle.section_laws.proofs.Timestamps.{timesWith-repeated, timesWith-packed, timesWith-raw}
@@ -26,22 +27,10 @@ use Rattle.section_laws.proofs.Integers.{storedSection-repeated, storedSection-
 use Rattle.acceptance.specs.Sections.{TimesForm, IntegersForm}
 use Rattle.acceptance.proofs.Times.{times-read}
 use Rattle.acceptance.proofs.Integers.{integers-read}
+use Rattle.theorems.proofs.Steps.{leb-exactly, eqb-exactly, both-exactly}
 use Rattle.theorems.specs.WriterForms.{formNumber, Alike, LargestExponent, FormBy, WriterForms}
 
 -- ---- tests as facts
-
-tested : {P : ℕ → Type 0} (p : ℕ → Bool) → ((x : ℕ) → (p x ≡ true) ↔ P x) → (xs : List ℕ) → (every p xs ≡ true) ↔ Each P xs
-tested p says xs =
-    let each = every-each p xs in (
-      λ e. each-map (λ x. says x .0) xs (each .0 e),
-      λ h. each .1 (each-map (λ x. says x .1) xs h),
-    )
-
-at-most : (a m : ℕ) → (leb a m ≡ true) ↔ (a ≤ m)
-at-most a m = (leb-true a m, le-leb a m)
-
-equal : (a b : ℕ) → (eqb a b ≡ true) ↔ (a ≡ b)
-equal a b = (eqb-true a b, eq-eqb a b)
 
 all-equal : (xs : List ℕ) → (allEqual xs ≡ true) ↔ ((x : ℕ) × Each (λ y. y ≡ x) xs)
 all-equal [] = (λ e. (0, tt), λ h. refl)
@@ -51,13 +40,7 @@ all-equal (x ∷ xs) = (
 )
 
 alike : (least : ℕ) (xs : List ℕ) → (repeats least xs ≡ true) ↔ Alike least xs
-alike least xs =
-    let parts = and-true (leb least (length xs)) (allEqual xs) in
-    let enough = at-most least (length xs) in
-    let same = all-equal xs in (
-      λ e. (enough .0 (parts .0 e .0), same .0 (parts .0 e .1)),
-      λ h. parts .1 (enough .1 (h .0), same .1 (h .1)),
-    )
+alike least xs = both-exactly (leb-exactly least (length xs)) (all-equal xs)
 
 -- ---- the form by two tests
 
@@ -92,7 +75,7 @@ module _ {same small : Bool} {Same Small : Type 0} (isSame : (same ≡ true) ↔
 -- ---- timestamps
 
 divided-by : (k : ℕ) (ds : List ℕ) → (every (λ d. eqb (d % 10 ^ k) 0) ds ≡ true) ↔ Each (λ d. d % 10 ^ k ≡ 0) ds
-divided-by k ds = tested (λ d. eqb (d % 10 ^ k) 0) (λ d. equal (d % 10 ^ k) 0) ds
+divided-by k ds = every-says (λ d. eqb (d % 10 ^ k) 0) (λ d. eqb-exactly (d % 10 ^ k) 0) ds
 
 largest : (ds : List ℕ) → LargestExponent ds (exponent exponentMost ds)
 largest ds = record {
@@ -106,10 +89,10 @@ one-largest ds e l =
     let ours = largest ds in
     omega (arith, ours .largest e (l .most) (l .divides), l .largest (exponent exponentMost ds) (ours .most) (ours .divides))
 
-module _ (e : ℕ) (most : e ≤ 12) (t : ℤ) (ds : List ℕ) where
+module _ (e : ℕ) (most : e ≤ exponentMost) (t : ℤ) (ds : List ℕ) where
   times-with : FormBy (Alike 1 ds) (Each (λ d. d / 10 ^ e ≤ packedMost) ds) (timesWith e t ds)
   times-with =
-      form-by (alike 1 ds) (tested (λ d. leb (d / 10 ^ e) packedMost) (λ d. at-most (d / 10 ^ e) packedMost) ds) (timesWith e t ds)
+      form-by (alike 1 ds) (every-says (λ d. leb (d / 10 ^ e) packedMost) (λ d. leb-exactly (d / 10 ^ e) packedMost) ds) (timesWith e t ds)
       (λ same. rw (timesWith-repeated e t ds same) (omega arith))
       (λ same small. rw (timesWith-packed e t ds same small) (omega arith))
       (λ same large. rw (timesWith-raw e t ds same large) (omega arith))
@@ -125,7 +108,7 @@ integers-form : (v : ℕ) (vs : List ℕ) → FormBy (Alike 2 (storedFrom v vs))
 integers-form v vs =
     let ss = storedFrom v vs in
     let section = integersSection (v ∷ vs) in
-    form-by (alike 2 ss) (tested (λ x. leb x packedMost) (λ x. at-most x packedMost) (stored (v ∷ vs))) section
+    form-by (alike 2 ss) (every-says (λ x. leb x packedMost) (λ x. leb-exactly x packedMost) (stored (v ∷ vs))) section
     (λ same. rw (storedSection-repeated _ ss same))
     (λ same small. rw (storedSection-packed _ ss same small))
     (λ same large. rw (storedSection-raw _ ss same large))

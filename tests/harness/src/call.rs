@@ -116,6 +116,16 @@ pub enum Answer {
     Fault(&'static str),
 }
 
+impl Answer {
+    /// 0 for a good answer, else the number of the refusal.
+    pub fn number(&self) -> u8 {
+        match self {
+            Answer::Refused(number) => *number,
+            _ => 0,
+        }
+    }
+}
+
 /// The answer as a conformance answer has it, without the place of a refusal.
 impl fmt::Display for Answer {
     fn fmt(&self, f: &mut fmt::Formatter) -> fmt::Result {

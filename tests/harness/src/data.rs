@@ -74,6 +74,17 @@ impl Case {
     pub fn act(&self) -> &str {
         self.case.split(' ').next().unwrap_or_default()
     }
+
+    /// The number of the refusal that is expected, 0 where a good answer is.
+    pub fn number(&self) -> u8 {
+        match self.answer.strip_prefix("refused ") {
+            Some(rest) => {
+                let number = rest.split(' ').next().unwrap_or_default();
+                number.parse().expect("a refusal's number")
+            }
+            None => 0,
+        }
+    }
 }
 
 /// The two cases that read 18,078,000 points: act and line in `big`.

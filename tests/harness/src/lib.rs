@@ -14,6 +14,7 @@
 //! | [`parts`] | images put together from parts, in forms our writer would not choose |
 //! | [`damage`] | faults in parts, images and rolls |
 //! | [`scene`] | what a generated case is about |
+//! | [`tally`] | how often each act gave each answer |
 
 #![deny(unsafe_code)]
 
@@ -26,6 +27,7 @@ pub mod model;
 pub mod parts;
 pub mod random;
 pub mod scene;
+pub mod tally;
 pub mod trial;
 
 #[cfg(feature = "library")]

@@ -4,9 +4,35 @@ use tsm_harness::acts::{Query, Reference};
 use tsm_harness::call::Call;
 use tsm_harness::data::{self, shortened, unhex};
 use tsm_harness::lent::Padded;
+use tsm_harness::tally::Tally;
 use tsm_harness::trial::Trial;
 use tsm_reference::{check, find, merge, read_block, read_point, unroll, write};
 use tsm_reference::{MergeRefusal, Refusal, Side};
+
+/// The cases hold every answer that an act can give.
+#[test]
+fn every_answer_stands() {
+    let cases = data::cases();
+    let mut tally = Tally::default();
+    for case in &cases {
+        tally.count(case.act(), case.number());
+    }
+    tally.print();
+    tally.assert_complete();
+    // Of merge, those of a check stand for either image.
+    for side in ["older", "newer"] {
+        for number in 1..=16 {
+            let stands = |case: &data::Case| {
+                case.act() == "merge" && case.number() == number && case.answer.ends_with(side)
+            };
+            let seen = cases.iter().any(stands);
+            assert!(
+                seen,
+                "no merge in which the {side} image is refused as {number}"
+            );
+        }
+    }
+}
 
 /// The reference also says where it broke.
 #[test]
@@ -72,7 +98,7 @@ fn replay(expected: impl Fn(&str) -> String, mut run: impl FnMut(Call) -> String
     }
     println!("{replayed} cases replayed, {wrong} with another answer");
     assert_eq!(wrong, 0);
-    assert!(replayed > 8_000);
+    assert_eq!(replayed, if with_huge { 8_569 } else { 8_567 });
 }
 
 /// Runs the call that a case line describes.

@@ -3,8 +3,6 @@
 //!
 //! TSM_CASES says how many, TSM_SEED from which seed; TSM_CASE runs only that one.
 
-use std::collections::BTreeMap;
-
 use tsm_harness::acts::Reference;
 use tsm_harness::call::{Answer, Call, Entry};
 use tsm_harness::data::number_from_env;
@@ -12,6 +10,7 @@ use tsm_harness::lent::Padded;
 use tsm_harness::model::Model;
 use tsm_harness::random::Random;
 use tsm_harness::scene::{laid_length, Question, Scene};
+use tsm_harness::tally::Tally;
 use tsm_harness::trial::Trial;
 use tsm_reference::file;
 
@@ -34,14 +33,14 @@ fn reference_keeps_the_laws() {
     let cases = for_each_case(CASES, |scene, random| {
         for call in scene.calls(random) {
             let answer = laws.trial.run(call);
-            tally.count(call, &answer);
+            tally.count(call.act(), answer.number());
             if let Answer::Fault(fault) = answer {
                 panic!("{fault}: {call}");
             }
         }
         laws.hold(scene);
     });
-    tally.report(cases);
+    report(&tally, cases);
 }
 
 #[cfg(feature = "library")]
@@ -64,10 +63,10 @@ mod library {
                 };
                 let answer = library.run(call);
                 assert!(answer == expected, "{answer}\nis not {expected}\nto {call}");
-                tally.count(call, &answer);
+                tally.count(call.act(), answer.number());
             }
         });
-        tally.report(cases);
+        report(&tally, cases);
     }
 
     #[test]
@@ -76,6 +75,15 @@ mod library {
             trial: Trial::new(&Library, &Padded),
         };
         for_each_case(CASES / 10, |scene, _| laws.hold(scene));
+    }
+}
+
+/// Prints what was counted, and sees that a full run has every answer that an act can give.
+fn report(tally: &Tally, cases: u64) {
+    println!("{cases} cases");
+    tally.print();
+    if cases >= CASES {
+        tally.assert_complete();
     }
 }
 
@@ -106,51 +114,6 @@ impl Drop for Running {
     fn drop(&mut self) {
         if std::thread::panicking() {
             eprintln!("with TSM_SEED={} TSM_CASE={}", self.seed, self.case);
-        }
-    }
-}
-
-/// How often each act gave each answer: 0 for a good one, else the number of the refusal.
-#[derive(Default)]
-struct Tally {
-    counts: BTreeMap<&'static str, BTreeMap<u8, u64>>,
-}
-
-impl Tally {
-    fn count(&mut self, call: Call, answer: &Answer) {
-        let number = match answer {
-            Answer::Refused(number) => *number,
-            _ => 0,
-        };
-        let of_act = self.counts.entry(call.act()).or_default();
-        *of_act.entry(number).or_default() += 1;
-    }
-
-    /// Prints the counts, and sees that a full run has every answer that an act can give.
-    fn report(&self, cases: u64) {
-        println!("{cases} cases; how often each act gave each answer:");
-        for (act, counts) in &self.counts {
-            println!("  {act}: {counts:?}");
-        }
-        if cases < CASES {
-            return;
-        }
-        let index = 0..=11;
-        let image = 0..=16;
-        let possible: [(&str, Vec<u8>); 7] = [
-            ("check", image.clone().collect()),
-            ("find", index.chain([17, 18]).collect()),
-            ("read_block", image.clone().chain([17, 18, 19]).collect()),
-            ("read_point", image.clone().chain([17, 18, 23]).collect()),
-            ("write", vec![0, 19, 20, 22]),
-            ("unroll", image.clone().chain([19]).collect()),
-            ("merge", image.chain([19, 21, 22]).collect()),
-        ];
-        for (act, numbers) in possible {
-            for number in numbers {
-                let seen = self.counts[act].contains_key(&number);
-                assert!(seen, "no case in which {act} answers {number}");
-            }
         }
     }
 }

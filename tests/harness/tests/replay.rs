@@ -21,7 +21,7 @@ fn replay_all(guarded: Guarded) {
         );
         replayed += 1;
     }
-    assert!(replayed > 8_500);
+    assert_eq!(replayed, 8_767);
 }
 
 #[test]

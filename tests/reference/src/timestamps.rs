@@ -195,6 +195,7 @@ mod tests {
     fn differences_above_two_to_the_sixty_less_one_are_raw() {
         assert_eq!(section(&[0, 1, (1 << 60) + 1])[0], 0x00);
         assert_eq!(section(&[0, 1, 1 << 60])[0], 0x10);
+        assert_eq!(section(&[0, 1, (1 << 60) - 1])[0], 0x10);
     }
 
     #[test]
