@@ -12,13 +12,12 @@ use native.Mathlib.Omega.{arith}
 use lib.IntN.{ℤ}
 use lib.ListN.{length}
 use lib.Dec.{eqb, leb}
-use borrow.Author.Tests.{eqb-true, eq-eqb}
 use Rattle.format.specs.Limits.{exponentMost, packedMost}
 use Rattle.format.specs.Choice.{every, allEqual, Each}
 use Rattle.format.specs.Timestamps.{differencesFrom, exponent, timesWith, timesSection}
 use Rattle.format.specs.Integers.{storedFrom, stored, integersSection}
 use Rattle.format.proofs.Tests.{never}
-use Rattle.format.proofs.Lists.{each-map, every-each, every-says}
+use Rattle.format.proofs.Lists.{each-map, every-says}
 use Rattle.section_laws.specs.Choices.{repeats}
 use Rattle.section_laws.proofs.Forms.{repeating, packing, plain, choice}
 use Rattle.section_laws.proofs.Exponents.{exponent-most, exponent-divides, exponent-largest}
@@ -32,12 +31,13 @@ use Rattle.theorems.specs.WriterForms.{formNumber, Alike, LargestExponen
 
 -- ---- tests as facts
 
-all-equal : (xs : List ℕ) → (allEqual xs ≡ true) ↔ ((x : ℕ) × Each (λ y. y ≡ x) xs)
+all-equal : (xs : List ℕ) → (allEqual xs ≡ true) ↔ ((x : ℕ) × Each (λ y. x ≡ y) xs)
 all-equal [] = (λ e. (0, tt), λ h. refl)
-all-equal (x ∷ xs) = (
-  λ e. (x, (refl, each-map (λ y s. sym (eqb-true x y s)) xs (every-each (eqb x) xs .0 e))),
-  λ (z, (first, rest)). every-each (eqb x) xs .1 (each-map (λ y s. eq-eqb x y (first ∙ sym s)) xs rest),
-)
+all-equal (x ∷ xs) =
+    let same = every-says (eqb x) (eqb-exactly x) xs in (
+      λ e. (x, (refl, same .0 e)),
+      λ (z, (first, rest)). same .1 (each-map (λ y s. sym first ∙ s) xs rest),
+    )
 
 alike : (least : ℕ) (xs : List ℕ) → (repeats least xs ≡ true) ↔ Alike least xs
 alike least xs = both-exactly (leb-exactly least (length xs)) (all-equal xs)

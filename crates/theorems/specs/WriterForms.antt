@@ -27,7 +27,7 @@ abbrev pub formNumber : List ℕ → ℕ
 formNumber section = getD section 0 0xFF / 16
 
 abbrev pub Alike : (least : ℕ) → List ℕ → Type 0
-Alike least xs = (least ≤ length xs) × ((x : ℕ) × Each (λ y. y ≡ x) xs)
+Alike least xs = (least ≤ length xs) × ((x : ℕ) × Each (λ y. x ≡ y) xs)
 
 pub record LargestExponent (ds : List ℕ) (e : ℕ) : Type 0 where
   pub most : e ≤ exponentMost

@@ -77,13 +77,7 @@ impl Case {
 
     /// The number of the refusal that is expected, 0 where a good answer is.
     pub fn number(&self) -> u8 {
-        match self.answer.strip_prefix("refused ") {
-            Some(rest) => {
-                let number = rest.split(' ').next().unwrap_or_default();
-                number.parse().expect("a refusal's number")
-            }
-            None => 0,
-        }
+        refused(&self.answer).map_or(0, |number| number.parse().expect("a refusal's number"))
     }
 }
 
@@ -102,10 +96,15 @@ const ACTS: [&str; 8] = [
     "program",
 ];
 
+/// The number of a refusal, as an answer has it.
+fn refused(answer: &str) -> Option<&str> {
+    answer.strip_prefix("refused ")?.split(' ').next()
+}
+
 /// An answer without the place of a refusal, which the C interface does not give.
 pub fn without_place(answer: &str) -> String {
-    match answer.strip_prefix("refused ") {
-        Some(rest) => format!("refused {}", rest.split(' ').next().unwrap_or_default()),
+    match refused(answer) {
+        Some(number) => format!("refused {number}"),
         None => answer.to_string(),
     }
 }
