@@ -1,17 +1,19 @@
--- Tests that are joined, taken apart and built back; a test that every element of a list passes.
+-- Tests that are joined, taken apart and built back; a test that every element of a list passes, and one that every number below a bound does.
 --   true-or-false, never              one test
 --   and-true, or-false                a conjunction that passes, a disjunction that fails
 --   both-left, both-right, both-true  the parts of a conjunction
 --   every-at, every-imply             of an element; another test that follows
 --   every-append, every-drop, every-map   joins, parts and images
+--   below, every-below                the numbers below n; a test that is computed over them holds of each
 use Prim.Native.Nat.{ℕ, zero, suc, _<_}
 use mathlib.Core.Path.{_≡_, refl, sym, _∙_}
-use mathlib.Core.Logic.{_↔_, _⊎_, inl, inr}
+use mathlib.Core.Logic.{_↔_, _⊎_, inl, inr, ⊎-elim}
 use mathlib.Core.Bool.{Bool, true, false, true≢false, _&&_, _||_}
 use mathlib.Core.List.{List, [], _∷_, _++_, map}
 use native.Mathlib.Omega.{arith}
 use lib.ListN.{length, drop, getD}
 use Rattle.format.specs.Choice.{every}
+use Rattle.format.proofs.Cases.{same-or}
 
 pub true-or-false : (a : Bool) → (a ≡ true) ⊎ (a ≡ false)
 true-or-false true = inl refl
@@ -63,3 +65,16 @@ module _ {A : Type 0} where
 pub every-map : {A B : Type 0} (p : B → Bool) (f : A → B) (xs : List A) → every (λ x. p (f x)) xs ≡ true → every p (map f xs) ≡ true
 every-map p f [] e = refl
 every-map p f (x ∷ xs) e = both-true (both-left (p (f x)) _ e) (every-map p f xs (both-right (p (f x)) _ e))
+
+-- the numbers below n
+abbrev pub below : ℕ → List ℕ
+below zero = []
+below (suc n) = n ∷ below n
+
+-- the rule of a table: one test that the checker computes over all its places, and the rule at each of them
+pub every-below : (p : ℕ → Bool) (n : ℕ) → every p (below n) ≡ true → (k : ℕ) → k < n → p k ≡ true
+every-below p zero e k h = absurd (omega arith)
+every-below p (suc n) e k h =
+    ⊎-elim (λ (same : k ≡ n). rw same (both-left (p n) (every p (below n)) e))
+    (λ (other : k ≡ n → ⊥). every-below p n (both-right (p n) (every p (below n)) e) k (omega (arith, other)))
+    (same-or k n)
