@@ -1,11 +1,12 @@
 -- Bits, the highest first, and the bytes that state them: each gives the other back.
 --   padded                          the first k values, with zeros past the last
 --   padded-add, padded-take, padded-zero   in two parts, the values, and what stands past them
+--   padded-whole, padded-at         of k values, and one of them
 --   bits-above                      bits above the low j do not count
 --   bits-number, number-bits        the bits of the number of bits, and back
 --   bits-bytes, bytes-bits          the bits of the bytes of bits, and back
 --   bytes-stated                    bytes whose bits past n are zero are the bytes of those n
-use Prim.Native.Nat.{ℕ, zero, suc, _+_, _*_, _/_, _%_, _^_, _≤_}
+use Prim.Native.Nat.{ℕ, zero, suc, _+_, _*_, _/_, _%_, _^_, _≤_, _<_}
 use mathlib.Core.Path.{_≡_, refl, ap, sym, _∙_}
 use mathlib.Core.Bool.{true, and-eq-true-iff}
 use mathlib.Core.List.{List, [], _∷_, _++_, flatMap}
@@ -46,6 +47,17 @@ padded-zero zero [] = refl
 padded-zero (suc k) [] = padded-zero k []
 padded-zero zero (v ∷ vs) = refl
 padded-zero (suc k) (v ∷ vs) = padded-zero k vs
+
+pub padded-whole : (k : ℕ) (vs : List ℕ) → length vs ≡ k → padded k vs ≡ vs
+padded-whole zero [] h = refl
+padded-whole zero (v ∷ vs) h = absurd (omega arith)
+padded-whole (suc k) [] h = absurd (omega arith)
+padded-whole (suc k) (v ∷ vs) h = ap (λ (l : List ℕ). v ∷ l) (padded-whole k vs (omega arith))
+
+pub padded-at : (k : ℕ) (vs : List ℕ) (i : ℕ) → i < k → getD (padded k vs) i 0 ≡ getD vs i 0
+padded-at zero vs i h = absurd (omega arith)
+padded-at (suc k) vs zero h = refl
+padded-at (suc k) vs (suc i) h = let e : 1 + i ≡ suc i = omega arith in padded-at k (drop 1 vs) i (omega arith) ∙ getD-drop 1 vs i 0 ∙ rw e
 
 -- bits above the low j do not count
 pub bits-above : (j c b : ℕ) → bitsHighFirst j (c * 2 ^ j + b) ≡ bitsHighFirst j b
