@@ -8,7 +8,7 @@
 # make uninstall        removes what install put there
 .PHONY: run test lib test-interface bench bench-docs install uninstall
 
-VERSION = 0.3.0
+VERSION = 0.4.0
 PREFIX = /usr/local
 DESTDIR =
 ARCHIVE = target/staticlib/libtsm.a
@@ -45,6 +45,7 @@ test-interface: $(ARCHIVE)
 
 # The archive is built again, so that what is measured is what stands here.
 bench: lib
+	rt staticlib bench_booleans
 	@sh .ci/tools cargo gcc valgrind
 	cargo build --offline --quiet --release --manifest-path bench/Cargo.toml
 	bench/target/release/tsm_bench --plot target/bench.svg >target/bench.md

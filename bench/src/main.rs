@@ -5,6 +5,7 @@
 //! tsm_bench                 measures, and prints the tables of docs/BENCHMARKS.md
 //! tsm_bench --plot FILE     also writes the plot of cost by size
 //! tsm_bench --only WORD     only the time of acts or inputs with that word in their name
+//! tsm_bench --rows          only booleans sections, read a byte at a time and bit by bit
 //! tsm_bench --quick         only sees that both answer the same and that the stack is kept
 //! ```
 
@@ -16,6 +17,7 @@ mod instructions;
 mod measure;
 mod plot;
 mod report;
+mod rows;
 mod stack;
 
 use std::collections::BTreeMap;
@@ -38,9 +40,10 @@ fn main() {
         [] => print!("{}", measured(None)),
         ["--plot", file] => print!("{}", measured(Some(file))),
         ["--only", word] => print!("{}", only(word)),
+        ["--rows"] => print!("{}", report::rows(&rows::times(ROUNDS))),
         ["--quick"] => quick(),
         [instructions::ARGUMENT] => instructions::run(&cases::all(&inputs::Inputs::new())),
-        _ => panic!("usage: tsm_bench [--plot FILE | --only WORD | --quick]"),
+        _ => panic!("usage: tsm_bench [--plot FILE | --only WORD | --rows | --quick]"),
     }
 }
 
@@ -56,6 +59,9 @@ fn measured(plot: Option<&str>) -> String {
         measure::times(case, &mut lent, ROUNDS)
     });
     let times: Vec<_> = times.collect();
+    eprintln!("rows of holes");
+    rows::compare();
+    let rows = rows::times(ROUNDS);
     eprintln!("cost by size");
     let curves = growth::curves(ROUNDS / 2);
     if let Some(file) = plot {
@@ -68,6 +74,7 @@ fn measured(plot: Option<&str>) -> String {
         times,
         instructions: instructions::count(&cases),
         stacks,
+        rows,
         curves,
     })
 }
@@ -95,6 +102,10 @@ fn quick() {
     println!(
         "bench: library and reference answer the same in {} cases",
         cases.len()
+    );
+    println!(
+        "bench: {} booleans sections are read the same a byte at a time and bit by bit",
+        rows::compare()
     );
 }
 

@@ -2,7 +2,7 @@
 
 use std::hint::black_box;
 
-use tsm_harness::acts::{Acts, Reference};
+use tsm_harness::acts::Reference;
 use tsm_harness::library::Library;
 
 use crate::cases::{Case, Lent};
@@ -47,11 +47,19 @@ impl Times {
     }
 }
 
-/// Runs the case by either implementation, at least `rounds` times. Each measurement has as many
-/// passes over the case as take at least [`LEAST_NANOSECONDS`], the same for both.
+/// Runs the case by either implementation.
 pub fn times(case: &Case, lent: &mut Lent, rounds: usize) -> Times {
-    case.run(&Library, lent);
-    let once = clock::spent(|| case.run(&Reference, lent));
+    in_turn(rounds, case.units, |is_library| match is_library {
+        true => black_box(case).run(&Library, lent),
+        false => black_box(case).run(&Reference, lent),
+    })
+}
+
+/// Runs two things of so many units in turn, the library's and the reference's, at least `rounds` times each. Each
+/// measurement has as many passes as take at least [`LEAST_NANOSECONDS`], the same for both.
+pub fn in_turn(rounds: usize, units: usize, mut run: impl FnMut(bool)) -> Times {
+    run(true);
+    let once = clock::spent(|| run(false));
     let passes = (LEAST_NANOSECONDS / once).ceil().clamp(1.0, 1e6) as usize;
 
     let (mut library, mut reference) = (Vec::new(), Vec::new());
@@ -59,25 +67,17 @@ pub fn times(case: &Case, lent: &mut Lent, rounds: usize) -> Times {
     while library.len() < rounds || (all < ENOUGH_NANOSECONDS && library.len() < 10 * rounds) {
         let library_first = library.len() % 2 == 0;
         for is_library in [library_first, !library_first] {
-            let spent = match is_library {
-                true => spent(case, &Library, lent, passes),
-                false => spent(case, &Reference, lent, passes),
-            };
+            let spent = clock::spent(|| (0..passes).for_each(|_| run(is_library)));
             all += spent;
             let runs = match is_library {
                 true => &mut library,
                 false => &mut reference,
             };
-            runs.push(spent / (passes * case.units) as f64);
+            runs.push(spent / (passes * units) as f64);
         }
     }
     Times {
         library: Spread::of(library),
         reference: Spread::of(reference),
     }
-}
-
-/// Nanoseconds of so many passes over the case.
-fn spent(case: &Case, acts: &impl Acts, lent: &mut Lent, passes: usize) -> f64 {
-    clock::spent(|| (0..passes).for_each(|_| black_box(case).run(acts, lent)))
 }

@@ -58,6 +58,8 @@ pub struct Measured<'a> {
     /// None where there is no valgrind.
     pub instructions: Option<Vec<Instructions>>,
     pub stacks: BTreeMap<&'static str, Stack>,
+    /// Of a booleans section, by its number of values.
+    pub rows: Vec<(usize, Times)>,
     pub curves: Vec<Curve>,
 }
 
@@ -75,6 +77,7 @@ fn write_tables(out: &mut String, measured: &Measured) -> std::fmt::Result {
         times,
         instructions,
         stacks,
+        rows,
         curves,
     } = measured;
     let (processor, compiler) = (processor(), compiler());
@@ -105,8 +108,45 @@ fn write_tables(out: &mut String, measured: &Measured) -> std::fmt::Result {
         )?;
     }
 
+    writeln!(out, "\n### Rows of holes\n")?;
+    write_rows(out, rows)?;
+
     writeln!(out, "\n### Cost by size\n")?;
     curves.iter().try_for_each(|curve| write_curve(out, curve))
+}
+
+/// The table of booleans sections alone.
+pub fn rows(rows: &[(usize, Times)]) -> String {
+    let mut out = String::new();
+    write_rows(&mut out, rows).expect("a string grows");
+    out
+}
+
+fn write_rows(out: &mut String, rows: &[(usize, Times)]) -> std::fmt::Result {
+    writeln!(
+        out,
+        "| values | a byte at a time, ns a section | bit by bit | ratio | ns a value: bytes | bits |"
+    )?;
+    writeln!(out, "|---|---|---|---|---|---|")?;
+    for (length, times) in rows {
+        let ratio = times.ratio();
+        let (bytes, bits) = (times.library, times.reference);
+        let section = |spread: Spread| {
+            let [least, median] = [spread.least, spread.median].map(|each| each * *length as f64);
+            format!("{least:.1} ({median:.1})")
+        };
+        writeln!(
+            out,
+            "| {length} | {} | {} | **{:.2}** ({:.2}) | {:.3} | {:.3} |",
+            section(bytes),
+            section(bits),
+            ratio.least,
+            ratio.median,
+            bytes.least,
+            bits.least,
+        )?;
+    }
+    Ok(())
 }
 
 /// The table of the acts alone, without instructions.

@@ -98,7 +98,7 @@ fn replay(expected: impl Fn(&str) -> String, mut run: impl FnMut(Call) -> String
     }
     println!("{replayed} cases replayed, {wrong} with another answer");
     assert_eq!(wrong, 0);
-    assert_eq!(replayed, if with_huge { 8_569 } else { 8_567 });
+    assert_eq!(replayed, if with_huge { 9_124 } else { 9_122 });
 }
 
 /// Runs the call that a case line describes.
