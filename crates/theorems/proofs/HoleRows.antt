@@ -1,31 +1,18 @@
 -- Rows of holes: a byte is the number of its bits, and the bits of a section are those of its bytes.
-use Prim.Native.Nat.{ℕ, _+_, _-_, _*_, _/_, _%_, _^_, _≤_, _<_}
-use mathlib.Core.Path.{_≡_, refl, ap, sym, subst, _∙_}
+use Prim.Native.Nat.{ℕ, _+_, _-_, _*_, _/_, _%_, _^_, _<_}
+use mathlib.Core.Path.{_≡_, ap, sym, subst, _∙_}
 use mathlib.Core.List.{List, [], _∷_, _++_, append-nil}
 use native.Mathlib.Omega.{arith}
-use lib.Dec.{lit<}
-use lib.ListN.{length, take, drop, getD}
+use lib.ListN.{length, getD}
 use lib.Seq.{getD-drop, getD-append-add}
-use Rattle.format.specs.Choice.{Each}
 use Rattle.format.specs.Varint.{varint}
-use Rattle.format.specs.Booleans.{bitsHighFirst, byteOfBits, bitsOfBytes, bytesOfBits, bitmapSize}
-use Rattle.format.proofs.AllBelow.{below-each, each-below}
-use Rattle.format.proofs.Lists.{each-map}
-use Rattle.section_laws.specs.Bits.{AllBits}
-use Rattle.section_laws.proofs.Bits.{bits-length, bits-below, bytes-at}
-use Rattle.section_laws.proofs.BitsBack.{padded, padded-whole, padded-at, bits-number, number-bits, bits-bytes}
+use Rattle.format.specs.Booleans.{bitsHighFirst, byteOfBits, bytesOfBits, bitmapSize}
+use Rattle.section_laws.proofs.Bits.{bits-each, each-bits, bits-length, bits-below, bytes-at}
+use Rattle.section_laws.proofs.BitsBack.{padded-whole, padded-at, bits-number, number-bits, bits-bytes}
 use Rattle.section_laws.proofs.BlockLengths.{bytesOfBits-length}
-use Rattle.booleans.specs.Pairs.{openedByte}
 use Rattle.booleans.proofs.OpenedBytes.{opened-bits}
 use Rattle.acceptance.specs.Sections.{BooleansSection}
 use Rattle.theorems.specs.HoleRows.{EightHoles, HoleRows}
-
--- values of 0 or 1, one way and the other
-bits-each : (vs : List ℕ) → AllBits vs → Each (λ v. v ≤ 1) vs
-bits-each vs all = each-map (λ v h. (let most : v ≤ 1 = omega (arith, h) in most)) vs (below-each 2 vs all)
-
-each-bits : (vs : List ℕ) → Each (λ v. v ≤ 1) vs → AllBits vs
-each-bits vs all = each-below 2 (lit< tt) vs (each-map (λ v h. (let below : v < 2 = omega (arith, h) in below)) vs all)
 
 -- the number of eight bits, by their weights
 weighed : (vs : List ℕ)

@@ -3,7 +3,7 @@ use native.Mathlib.Omega.{arith}
 use Prim.Native.Nat.{ℕ, _+_, _-_, _*_, _≤_, _<_}
 use mathlib.Core.Path.{_≡_, refl, ap, sym, subst, _∙_}
 use mathlib.Core.List.{List, _++_}
-use native.Mathlib.Nat.{add-assoc, sub-zero, add-zero, mul-zero}
+use native.Mathlib.Nat.{sub-zero, add-zero, mul-zero}
 use lib.ListN.{length, take, drop, getD}
 use Rattle.format.specs.Bytes.{overwrite, splice}
 use Rattle.format.specs.Booleans.{bitsHighFirst, bitsOfBytes}
