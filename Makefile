@@ -43,7 +43,7 @@ test-interface: $(ARCHIVE)
 	tests/c/run
 	tests/bindings/run
 
-# The archive is built again, so that what is measured is what stands here.
+# The archives are built again, so that what is measured is what stands here.
 bench: lib
 	rt staticlib bench_booleans
 	@sh .ci/tools cargo gcc valgrind

@@ -60,7 +60,6 @@ fn measured(plot: Option<&str>) -> String {
     });
     let times: Vec<_> = times.collect();
     eprintln!("rows of holes");
-    rows::compare();
     let rows = rows::times(ROUNDS);
     eprintln!("cost by size");
     let curves = growth::curves(ROUNDS / 2);

@@ -125,25 +125,19 @@ pub fn rows(rows: &[(usize, Times)]) -> String {
 fn write_rows(out: &mut String, rows: &[(usize, Times)]) -> std::fmt::Result {
     writeln!(
         out,
-        "| values | a byte at a time, ns a section | bit by bit | ratio | ns a value: bytes | bits |"
+        "| values | a byte at a time, ns a section | bit by bit, ns a section | ratio |"
     )?;
-    writeln!(out, "|---|---|---|---|---|---|")?;
+    writeln!(out, "|---|---|---|---|")?;
     for (length, times) in rows {
-        let ratio = times.ratio();
-        let (bytes, bits) = (times.library, times.reference);
         let section = |spread: Spread| {
             let [least, median] = [spread.least, spread.median].map(|each| each * *length as f64);
             format!("{least:.1} ({median:.1})")
         };
+        let (bytes, bits) = (section(times.library), section(times.reference));
+        let Spread { least, median } = times.ratio();
         writeln!(
             out,
-            "| {length} | {} | {} | **{:.2}** ({:.2}) | {:.3} | {:.3} |",
-            section(bytes),
-            section(bits),
-            ratio.least,
-            ratio.median,
-            bytes.least,
-            bits.least,
+            "| {length} | {bytes} | {bits} | **{least:.2}** ({median:.2}) |"
         )?;
     }
     Ok(())

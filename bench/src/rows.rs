@@ -41,7 +41,8 @@ extern "C" {
 /// 0 where the section is read, 1 where it is refused, 2 where the slice is too short.
 fn read(by: Read, section: &[u8], n: usize, values: &mut [u64]) -> u8 {
     let (lent, length) = (values.as_mut_ptr(), values.len());
-    // SAFETY: both pointers and lengths are of slices that live through the call, and a `&mut` slice overlaps nothing.
+    // SAFETY: `by` is one of the two functions above, which are proved for all arguments; both pointers and lengths are
+    // of slices that live through the call, and a `&mut` slice overlaps nothing.
     unsafe { by(section.as_ptr(), section.len(), n, lent, length) }
 }
 
@@ -54,32 +55,37 @@ fn row(length: usize) -> (Vec<i64>, Vec<u8>) {
     (holes, section)
 }
 
-/// Sees that both read every row up to a full block, give its holes, and refuse the same where it is damaged or the
-/// slice is too short. Answers how many sections were read.
+/// Sees that both read every row up to a full block and give its holes, that both refuse it where a byte is missing or
+/// left over or the slice is too short, and that both answer as ordinary Rust where one of its bits is turned over.
+/// Answers how many sections were read.
 pub fn compare() -> usize {
-    let mut sections = 0;
-    for length in 0..=MAX_POINTS {
-        let (holes, section) = row(length);
-        let mut expected = [UNTOUCHED; MAX_POINTS + 1];
-        expected.iter_mut().zip(&holes).for_each(|(cell, &hole)| *cell = hole as u64);
-        assert_eq!(both(&section, length, MAX_POINTS + 1), (0, expected.to_vec()));
+    let cells = MAX_POINTS + 1;
+    let refused = |number, cells| (number, vec![UNTOUCHED; cells]);
+    let read = |holes: &[i64]| {
+        let mut values: Vec<_> = holes.iter().map(|&hole| hole as u64).collect();
+        values.resize(cells, UNTOUCHED);
+        (0, values)
+    };
+    for length in 1..=MAX_POINTS {
+        let (mut holes, section) = row(length);
+        assert_eq!(both(&section, length, cells), read(&holes));
+        assert_eq!(both(&section, length, length - 1), refused(2, length - 1));
+        let longer = [&section[..], &[0]].concat();
+        assert_eq!(both(&longer, length, cells), refused(1, cells));
+        let shorter = &section[..section.len() - 1];
+        assert_eq!(both(shorter, length, cells), refused(1, cells));
 
         let mut random = Random::of_case(9, length as u64);
-        let mut damaged = section.clone();
-        let place = random.below(section.len());
+        let mut damaged = section;
+        let place = random.below(damaged.len());
         damaged[place] ^= 1 << random.below(8);
-        let longer = [&section[..], &[0]].concat();
-        let shorter = &section[..section.len() - 1];
-        for section in [&damaged[..], &longer, shorter] {
-            both(section, length, MAX_POINTS + 1);
-        }
-        if length > 0 {
-            let untouched = vec![UNTOUCHED; length - 1];
-            assert_eq!(both(&section, length, length - 1), (2, untouched));
-        }
-        sections += 5;
+        let expected = match booleans::read(&damaged, &mut holes) {
+            Ok(()) => read(&holes),
+            Err(_) => refused(1, cells),
+        };
+        assert_eq!(both(&damaged, length, cells), expected);
     }
-    sections
+    5 * MAX_POINTS
 }
 
 /// What both answer and leave in a slice of so many cells.
@@ -92,8 +98,10 @@ fn both(section: &[u8], n: usize, cells: usize) -> (u8, Vec<u64>) {
     bytes
 }
 
-/// The time of each value, by bytes as the library's and by bits as the reference's, for each length.
+/// The time of each value, by bytes as the library's and by bits as the reference's, for each length. First sees that
+/// both answer the same.
 pub fn times(rounds: usize) -> Vec<(usize, Times)> {
+    compare();
     let mut values = [0; MAX_POINTS];
     let of_length = |length| {
         let (_, section) = row(length);

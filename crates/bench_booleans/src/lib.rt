@@ -11,11 +11,6 @@ ghost use Rattle.bench_booleans.specs.Rows.{readNumber, rowNumber, rowVa
 use booleans::Bitmap;
 use booleans::BooleansRead;
 
-// Bits of a byte, and the place of the highest.
-const BITS: usize = 8;
-
-const HIGHEST: usize = 7;
-
 // Lays the n bits of the bytes from `start` on, each by itself.
 fn open_by_bits(section: &[u8], start: usize, n: usize, values: &mut [u64])
     requires { ⌜ (start + bitmapSize n ≤ length (now section)) × (n ≤ length (now values)) ⌝ }
@@ -23,7 +18,9 @@ fn open_by_bits(section: &[u8], start: usize, n: usize, values: &mut [u64])
 {
     let mut i = 0;
     while i < n {
-        values[i] = ((section[start + i / BITS] >> (HIGHEST - i % BITS)) % 2) as u64;
+        values[i] = ((section[start + i / booleans::BITS]
+            >> (booleans::HIGHEST - i % booleans::BITS))
+            % 2) as u64;
         i += 1;
     }
 }

@@ -1,14 +1,14 @@
 -- Bits, the highest first, and the bytes that state them: each gives the other back.
---   padded                          the first k values, with zeros past the last
---   padded-add, padded-take, padded-zero   in two parts, the values, and what stands past them
---   padded-whole, padded-at         of k values, and one of them
+--   withZeros                       the first k values, with zeros past the last
+--   zeros-add, zeros-take, zeros-zero   in two parts, the values, and what stands past them
+--   zeros-whole, zeros-at         of k values, and one of them
 --   bits-above                      bits above the low j do not count
 --   bits-number, number-bits        the bits of the number of bits, and back
 --   bits-bytes, bytes-bits          the bits of the bytes of bits, and back
 --   bytes-stated                    bytes whose bits past n are zero are the bytes of those n
 use Prim.Native.Nat.{ℕ, zero, suc, _+_, _*_, _/_, _%_, _^_, _≤_, _<_}
 use mathlib.Core.Path.{_≡_, refl, ap, sym, _∙_}
-use mathlib.Core.Bool.{true, and-eq-true-iff}
+use mathlib.Core.Bool.{true}
 use mathlib.Core.List.{List, [], _∷_, _++_, flatMap}
 use native.Mathlib.Nat.{zero-add, mul-assoc, mul-add-div-right, pow-succ'}
 use native.Mathlib.Numerals.{one-add}
@@ -21,43 +21,44 @@ use borrow.Author.Tests.{eqb-true}
 use Rattle.format.specs.Choice.{every}
 use Rattle.format.specs.Bytes.{AllBytes}
 use Rattle.format.specs.Booleans.{bitsHighFirst, byteOfBits, bitsOfBytes, bitmapSize, bytesOfBits}
+use Rattle.format.proofs.Tests.{both-left, both-right}
 use Rattle.format.proofs.AllBelow.{below-drop}
 use Rattle.section_laws.specs.Bits.{AllBits}
 use Rattle.section_laws.proofs.Bits.{bits-length, number-below}
 
 -- the first k values, with zeros past the last
-abbrev pub padded : (k : ℕ) → List ℕ → List ℕ
-padded zero vs = []
-padded (suc k) vs = getD vs 0 0 ∷ padded k (drop 1 vs)
+abbrev pub withZeros : (k : ℕ) → List ℕ → List ℕ
+withZeros zero vs = []
+withZeros (suc k) vs = getD vs 0 0 ∷ withZeros k (drop 1 vs)
 
-pub padded-add : (j k : ℕ) (vs : List ℕ) → padded (j + k) vs ≡ padded j vs ++ padded k (drop j vs)
-padded-add zero k vs = rw zero-add
-padded-add (suc j) k vs =
+pub zeros-add : (j k : ℕ) (vs : List ℕ) → withZeros (j + k) vs ≡ withZeros j vs ++ withZeros k (drop j vs)
+zeros-add zero k vs = rw zero-add
+zeros-add (suc j) k vs =
     let e : suc j + k ≡ suc (j + k) = omega arith in
     let f : 1 + j ≡ suc j = omega arith in
-    rw e (ap (λ (l : List ℕ). getD vs 0 0 ∷ l) (padded-add j k (drop 1 vs) ∙ rw (drop-drop, f)))
+    rw e (ap (λ (l : List ℕ). getD vs 0 0 ∷ l) (zeros-add j k (drop 1 vs) ∙ rw (drop-drop, f)))
 
-pub padded-take : (k : ℕ) (vs : List ℕ) → length vs ≤ k → take (length vs) (padded k vs) ≡ vs
-padded-take k [] h = refl
-padded-take zero (v ∷ vs) h = absurd (omega arith)
-padded-take (suc k) (v ∷ vs) h = ap (λ (l : List ℕ). v ∷ l) (padded-take k vs (omega arith))
+pub zeros-take : (k : ℕ) (vs : List ℕ) → length vs ≤ k → take (length vs) (withZeros k vs) ≡ vs
+zeros-take k [] h = refl
+zeros-take zero (v ∷ vs) h = absurd (omega arith)
+zeros-take (suc k) (v ∷ vs) h = ap (λ (l : List ℕ). v ∷ l) (zeros-take k vs (omega arith))
 
-pub padded-zero : (k : ℕ) (vs : List ℕ) → every (eqb 0) (drop (length vs) (padded k vs)) ≡ true
-padded-zero zero [] = refl
-padded-zero (suc k) [] = padded-zero k []
-padded-zero zero (v ∷ vs) = refl
-padded-zero (suc k) (v ∷ vs) = padded-zero k vs
+pub zeros-zero : (k : ℕ) (vs : List ℕ) → every (eqb 0) (drop (length vs) (withZeros k vs)) ≡ true
+zeros-zero zero [] = refl
+zeros-zero (suc k) [] = zeros-zero k []
+zeros-zero zero (v ∷ vs) = refl
+zeros-zero (suc k) (v ∷ vs) = zeros-zero k vs
 
-pub padded-whole : (k : ℕ) (vs : List ℕ) → length vs ≡ k → padded k vs ≡ vs
-padded-whole zero [] h = refl
-padded-whole zero (v ∷ vs) h = absurd (omega arith)
-padded-whole (suc k) [] h = absurd (omega arith)
-padded-whole (suc k) (v ∷ vs) h = ap (λ (l : List ℕ). v ∷ l) (padded-whole k vs (omega arith))
+pub zeros-whole : (k : ℕ) (vs : List ℕ) → length vs ≡ k → withZeros k vs ≡ vs
+zeros-whole zero [] h = refl
+zeros-whole zero (v ∷ vs) h = absurd (omega arith)
+zeros-whole (suc k) [] h = absurd (omega arith)
+zeros-whole (suc k) (v ∷ vs) h = ap (λ (l : List ℕ). v ∷ l) (zeros-whole k vs (omega arith))
 
-pub padded-at : (k : ℕ) (vs : List ℕ) (i : ℕ) → i < k → getD (padded k vs) i 0 ≡ getD vs i 0
-padded-at zero vs i h = absurd (omega arith)
-padded-at (suc k) vs zero h = refl
-padded-at (suc k) vs (suc i) h = let e : 1 + i ≡ suc i = omega arith in padded-at k (drop 1 vs) i (omega arith) ∙ getD-drop 1 vs i 0 ∙ rw e
+pub zeros-at : (k : ℕ) (vs : List ℕ) (i : ℕ) → i < k → getD (withZeros k vs) i 0 ≡ getD vs i 0
+zeros-at zero vs i h = absurd (omega arith)
+zeros-at (suc k) vs zero h = refl
+zeros-at (suc k) vs (suc i) h = let e : 1 + i ≡ suc i = omega arith in zeros-at k (drop 1 vs) i (omega arith) ∙ getD-drop 1 vs i 0 ∙ rw e
 
 -- bits above the low j do not count
 pub bits-above : (j c b : ℕ) → bitsHighFirst j (c * 2 ^ j + b) ≡ bitsHighFirst j b
@@ -67,21 +68,21 @@ bits-above (suc j) c b =
     let e : c * 2 ^ suc j ≡ c * 2 * 2 ^ j = rw (pow-succ', mul-assoc) in
     rw (e, bits-above j (c * 2) b, mul-add-div-right (pow-pos j) (c * 2) b) (ap (λ (x : ℕ). x ∷ bitsHighFirst j b) (omega arith))
 
-pub bits-number : (k : ℕ) (vs : List ℕ) → AllBits vs → bitsHighFirst k (byteOfBits k vs) ≡ padded k vs
+pub bits-number : (k : ℕ) (vs : List ℕ) → AllBits vs → bitsHighFirst k (byteOfBits k vs) ≡ withZeros k vs
 unfolding bitsHighFirst byteOfBits
 bits-number zero vs all = refl
 bits-number (suc k) vs all =
     let rest = byteOfBits k (drop 1 vs) in
     let first : (getD vs 0 0 * 2 ^ k + rest) / 2 ^ k ≡ getD vs 0 0 = high (getD vs 0 0) k (number-below k (drop 1 vs) (below-drop 2 1 vs all)) in
     rw (first, bits-above k (getD vs 0 0) rest, bits-number k (drop 1 vs) (below-drop 2 1 vs all))
-    (ap (λ (x : ℕ). x ∷ padded k (drop 1 vs)) (omega (arith, all 0)))
+    (ap (λ (x : ℕ). x ∷ withZeros k (drop 1 vs)) (omega (arith, all 0)))
 
-pub bits-bytes : (m : ℕ) (vs : List ℕ) → AllBits vs → bitsOfBytes (bytesOfBits m vs) ≡ padded (8 * m) vs
+pub bits-bytes : (m : ℕ) (vs : List ℕ) → AllBits vs → bitsOfBytes (bytesOfBits m vs) ≡ withZeros (8 * m) vs
 unfolding bytesOfBits flatMap
 bits-bytes zero vs all = refl
 bits-bytes (suc m) vs all =
     let e : 8 * suc m ≡ 8 + 8 * m = omega arith in
-    rw (e, padded-add 8 (8 * m) vs, bits-number 8 vs all, bits-bytes m (drop 8 vs) (below-drop 2 8 vs all))
+    rw (e, zeros-add 8 (8 * m) vs, bits-number 8 vs all, bits-bytes m (drop 8 vs) (below-drop 2 8 vs all))
 
 pub number-bits : (k b : ℕ) (bs : List ℕ) → byteOfBits k (bitsHighFirst k b ++ bs) ≡ b % 2 ^ k
 unfolding bitsHighFirst byteOfBits
@@ -114,8 +115,8 @@ bytes-same (suc m) vs ws same = rw (number-same 8 vs ws same, bytes-same m (drop
 
 all-zero : (vs : List ℕ) → every (eqb 0) vs ≡ true → (i : ℕ) → getD vs i 0 ≡ 0
 all-zero [] e i = refl
-all-zero (v ∷ vs) e zero = sym (eqb-true 0 v (and-eq-true-iff (eqb 0 v) (every (eqb 0) vs) .0 e .0))
-all-zero (v ∷ vs) e (suc i) = all-zero vs (and-eq-true-iff (eqb 0 v) (every (eqb 0) vs) .0 e .1) i
+all-zero (v ∷ vs) e zero = sym (eqb-true 0 v (both-left (eqb 0 v) (every (eqb 0) vs) e))
+all-zero (v ∷ vs) e (suc i) = all-zero vs (both-right (eqb 0 v) (every (eqb 0) vs) e) i
 
 take-same : (n : ℕ) (vs : List ℕ) → every (eqb 0) (drop n vs) ≡ true → Same (take n vs) vs
 take-same zero vs e i = sym (all-zero vs e i)

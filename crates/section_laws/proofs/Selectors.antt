@@ -1,13 +1,12 @@
 -- The table of selectors, and the selector that our writer takes: the lowest that fits.
 --   count-least, count-most, width-most, used-most   rules of the table, each by one test that is computed
---   upTo, at-below     a test that passes at each number below another
 --   Lowest             a selector fits and none below it does
 --   selectorFor-lowest     our writer's selector is such a one where some selector fits
 --   selectorFor-is         and the only one
 --   selectorFor-fits       some selector fits where the first number is below 2^60
 use Prim.Native.Nat.{ℕ, zero, suc, _+_, _*_, _^_, _≤_, _<_}
 use mathlib.Core.Path.{_≡_, refl, subst}
-use mathlib.Core.Bool.{Bool, true, false, _&&_}
+use mathlib.Core.Bool.{Bool, true, false}
 use mathlib.Core.List.{List, [], _∷_}
 use native.Mathlib.Omega.{arith}
 use native.Mathlib.Decide.{decLt}
@@ -15,35 +14,22 @@ use lib.ListN.{length, getD}
 use lib.Dec.{leb, lit<}
 use borrow.Author.Tests.{leb-true, le-leb, lt-ltb}
 use Rattle.format.specs.Simple8b.{selectors, selectorCount, selectorWidth, selectorFits, firstSelector, selectorFor}
-use Rattle.format.proofs.Tests.{both-left, both-right, both-true, never}
+use Rattle.format.proofs.Tests.{both-true, never, every-below}
 
 -- ---- the table
 
--- a test passes at each number below n
-abbrev pub upTo : (ℕ → Bool) → ℕ → Bool
-upTo f zero = true
-upTo f (suc n) = f n && upTo f n
-
-pub at-below : (f : ℕ → Bool) (n : ℕ) → upTo f n ≡ true → (k : ℕ) → k < n → f k ≡ true
-at-below f zero t k h = absurd (omega arith)
-at-below f (suc n) t k h =
-    elim (decLt k n) [
-      | yes l ↦ at-below f n (both-right (f n) (upTo f n) t) k l
-      | no l ↦ let e : k ≡ n = omega arith in rw e (both-left (f n) (upTo f n) t)
-    ]
-
 module _ (p : ℕ) (h : p < 16) where
   pub count-least : 1 ≤ selectorCount p
-  count-least = leb-true 1 (selectorCount p) (at-below (λ (k : ℕ). leb 1 (selectorCount k)) 16 refl p h)
+  count-least = leb-true 1 (selectorCount p) (every-below (λ (k : ℕ). leb 1 (selectorCount k)) 16 refl p h)
 
   pub count-most : selectorCount p ≤ 240
-  count-most = leb-true (selectorCount p) 240 (at-below (λ (k : ℕ). leb (selectorCount k) 240) 16 refl p h)
+  count-most = leb-true (selectorCount p) 240 (every-below (λ (k : ℕ). leb (selectorCount k) 240) 16 refl p h)
 
   pub width-most : selectorWidth p ≤ 60
-  width-most = leb-true (selectorWidth p) 60 (at-below (λ (k : ℕ). leb (selectorWidth k) 60) 16 refl p h)
+  width-most = leb-true (selectorWidth p) 60 (every-below (λ (k : ℕ). leb (selectorWidth k) 60) 16 refl p h)
 
   pub used-most : selectorCount p * selectorWidth p ≤ 60
-  used-most = leb-true (selectorCount p * selectorWidth p) 60 (at-below (λ (k : ℕ). leb (selectorCount k * selectorWidth k) 60) 16 refl p h)
+  used-most = leb-true (selectorCount p * selectorWidth p) 60 (every-below (λ (k : ℕ). leb (selectorCount k * selectorWidth k) 60) 16 refl p h)
 
 -- ---- the lowest selector that fits
 

@@ -8,7 +8,7 @@ use lib.Seq.{getD-drop, getD-append-add}
 use Rattle.format.specs.Varint.{varint}
 use Rattle.format.specs.Booleans.{bitsHighFirst, byteOfBits, bytesOfBits, bitmapSize}
 use Rattle.section_laws.proofs.Bits.{bits-each, each-bits, bits-length, bits-below, bytes-at}
-use Rattle.section_laws.proofs.BitsBack.{padded-whole, padded-at, bits-number, number-bits, bits-bytes}
+use Rattle.section_laws.proofs.BitsBack.{zeros-whole, zeros-at, bits-number, number-bits, bits-bytes}
 use Rattle.section_laws.proofs.BlockLengths.{bytesOfBits-length}
 use Rattle.booleans.proofs.OpenedBytes.{opened-bits}
 use Rattle.acceptance.specs.Sections.{BooleansSection}
@@ -33,7 +33,7 @@ holes-of b byte =
 holes-only : (b : ℕ) (holes : List ℕ) → EightHoles b holes → bitsHighFirst 8 b ≡ holes
 holes-only b holes h =
     let number : b ≡ byteOfBits 8 holes = h .weights ∙ sym (weighed holes) in
-    ap (bitsHighFirst 8) number ∙ bits-number 8 holes (each-bits holes (h .bit)) ∙ padded-whole 8 holes (h .eight)
+    ap (bitsHighFirst 8) number ∙ bits-number 8 holes (each-bits holes (h .bit)) ∙ zeros-whole 8 holes (h .eight)
 
 row : (bs vs : List ℕ) (i : ℕ) → BooleansSection bs vs → i < length vs
     → getD vs i 0 ≡ getD bs (1 + length (varint (length vs)) + i / 8) 0 / 2 ^ (7 - i % 8) % 2
@@ -46,7 +46,7 @@ row bs vs i s h =
     ap (λ (l : List ℕ). getD l (1 + length (varint n) + i / 8) 0) (s .bytes)
     ∙ subst (λ (k : ℕ). getD (head ++ bytes) (k + i / 8) 0 ≡ getD bytes (i / 8) 0) size (getD-append-add head bytes (i / 8) 0) in
     rw byte
-    (sym (padded-at (8 * bitmapSize n) vs i (omega arith))
+    (sym (zeros-at (8 * bitmapSize n) vs i (omega arith))
     ∙ ap (λ (l : List ℕ). getD l i 0) (sym (bits-bytes (bitmapSize n) vs (each-bits vs (s .bit))))
     ∙ bytes-at bytes i (omega (arith, bytesOfBits-length (bitmapSize n) vs)))
 

@@ -20,9 +20,9 @@ pub record EightHoles (byte : ℕ) (holes : List ℕ) : Type 0 where
       ≡ 128 * getD holes 0 0 + 64 * getD holes 1 0 + 32 * getD holes 2 0 + 16 * getD holes 3 0
       + 8 * getD holes 4 0 + 4 * getD holes 5 0 + 2 * getD holes 6 0 + getD holes 7 0
 
--- Not met by a reader that takes a byte from its low edge, nor by one that opens a single byte of the 256 otherwise.
+-- Not met where a byte is opened from its low edge, nor where a single one of the 256 is opened otherwise.
 pub record HoleRows : Type 0 where
-  -- the eight values that a byte is opened into are its own, and no others are
+  -- a byte is opened into the eight values whose weights make it up, and into no others (`booleans::open_byte` lays `openedByte`)
   pub byte : (b : ℕ) (holes : List ℕ) → b < 256 → (openedByte b ≡ holes) ↔ EightHoles b holes
   -- value i of a section stands in byte i / 8 of those after the first byte and the count, the first of them in its highest bit
   pub row : (bs vs : List ℕ) (i : ℕ) → BooleansSection bs vs → i < length vs

@@ -1,4 +1,5 @@
--- `open_whole` meets its contract: the bits of the bytes that are left, laid over the values as they stand, give what all of them give over the values at entry.
+-- `open_whole` meets its contract: a byte is opened into its bits, and the bits of the bytes that are left, laid over the values as they stand, give
+-- what all of them give over the values at entry.
 use native.Mathlib.Omega.{arith}
 use Prim.Native.Nat.{ℕ, _+_, _-_, _*_, _≤_, _<_}
 use mathlib.Core.Path.{_≡_, refl, ap, sym, subst, _∙_}
@@ -9,20 +10,23 @@ use Rattle.format.specs.Bytes.{overwrite, splice}
 use Rattle.format.specs.Booleans.{bitsHighFirst, bitsOfBytes}
 use Rattle.format.proofs.Splices.{splice-append, splice-nothing, splice-front}
 use Rattle.section_laws.proofs.Bits.{bits-length, bytes-whole}
+use Rattle.booleans.specs.Pairs.{openedByte}
+use Rattle.booleans.proofs.OpenedBytes.{opened-bits}
 use Rattle.booleans.proofs.open_whole.Statement.{statement}
 use Rattle.booleans.proofs.open_whole.Tie as tie
 
 -- a byte is laid, and then what follows it
-laid-more : (section values : List ℕ) (start i count : ℕ) → start + count ≤ length section → i < count → 8 * count ≤ length values
-    → splice (8 * (i + 1)) (take (8 * (count - (i + 1))) (bitsOfBytes (drop (start + (i + 1)) section))) (splice (8 * i) (bitsHighFirst 8 (getD section (start + i) 0)) values)
+laid-more : (section values : List ℕ) (start i count : ℕ) → getD section (start + i) 0 < 256 → start + count ≤ length section → i < count → 8 * count ≤ length values
+    → splice (8 * (i + 1)) (take (8 * (count - (i + 1))) (bitsOfBytes (drop (start + (i + 1)) section))) (splice (8 * i) (openedByte (getD section (start + i) 0)) values)
     ≡ splice (8 * i) (take (8 * (count - i)) (bitsOfBytes (drop (start + i) section))) values
-laid-more section values start i count inside more room =
+laid-more section values start i count fits inside more room =
     let byte = bitsHighFirst 8 (getD section (start + i) 0) in
     let rest = take (8 * (count - (i + 1))) (bitsOfBytes (drop (start + (i + 1)) section)) in
     let place : 8 * i + length byte ≡ 8 * (i + 1) = omega (arith, bits-length 8 (getD section (start + i) 0)) in
     let left : 8 * (count - i) - 8 ≡ 8 * (count - (i + 1)) = omega arith in
     let next : start + i + 1 ≡ start + (i + 1) = omega arith in
-    subst (λ (k : ℕ). splice k rest (splice (8 * i) byte values) ≡ splice (8 * i) (byte ++ rest) values) place
+    ap (λ (l : List ℕ). splice (8 * (i + 1)) rest (splice (8 * i) l values)) (opened-bits (getD section (start + i) 0) fits)
+    ∙ subst (λ (k : ℕ). splice k rest (splice (8 * i) byte values) ≡ splice (8 * i) (byte ++ rest) values) place
     (splice-append (8 * i) byte rest values (omega arith))
     ∙ ap (λ (bs : List ℕ). splice (8 * i) bs values) (sym (rw (left, next) at (bytes-whole section (start + i) (8 * (count - i)) (omega arith) (omega arith))))
 
@@ -67,11 +71,12 @@ loop-again : tie.Need-loop-again Inv-loop μ-loop
 loop-again c =
     let a = c .before .before .before .before .before .before .before .before .before .before .before .args in
     let l = c .before .before .before .before .before .before .before .loop in
+    let bytes = c .before .before .before .before .before .before .before .before .before .before .shared-slice-known .given in
     let call = c .before .before .open-byte in (
       omega arith,
       call .kept .1 .1 .0 ∙ l .inv .1,
       ap (λ (vs : List ℕ). splice (8 * (l .i + 1)) (take (8 * (a .count - (l .i + 1))) (bitsOfBytes (drop (a .start + (l .i + 1)) (a .section .now)))) vs) (call .ensures)
-          ∙ laid-more (a .section .now) (l .values) (a .start) (l .i) (a .count) (omega arith) (omega arith) (omega arith)
+          ∙ laid-more (a .section .now) (l .values) (a .start) (l .i) (a .count) (bytes (a .start + l .i) .fits) (omega arith) (omega arith) (omega arith)
           ∙ l .inv .2,
     )
 
