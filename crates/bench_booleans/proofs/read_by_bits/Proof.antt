@@ -1,14 +1,9 @@
 -- `read_by_bits` meets its contract: where the bits are found, they are what the definition reads, and are laid; else its refusal is answered.
 use native.Mathlib.Omega.{arith}
 use Prim.Native.Nat.{ℕ}
-use mathlib.Core.Path.{_∙_}
-use lib.ListN.{take, drop}
-use Rattle.format.specs.Refusals.{ok, refused}
-use Rattle.format.specs.declared.Refusal.the-variants.{Values}
-use Rattle.format.specs.Booleans.{bitsOfBytes}
 use Rattle.booleans.specs.declared.Bitmap.{Bitmap}
 use Rattle.booleans.specs.Section.{BitmapIs}
-use Rattle.booleans.proofs.Reading.{answered}
+use Rattle.booleans.proofs.Reading.{bitmap-laid, bitmap-broken}
 use borrow.Author.Needs.{needs}
 use Rattle.bench_booleans.proofs.read_by_bits.Statement.{statement}
 use Rattle.bench_booleans.proofs.read_by_bits.Tie as tie
@@ -39,8 +34,8 @@ open-by-bits-requires c κs = omega (arith, is (c .before) .0)
 returns : tie.Need-returns
 returns c =
     let a = c .before .before .before .before .before .before .args in
-    let place = c .before .found .given .0 .0 in
-    answered (a .n) (a .section .now) (a .values .now) (refused Values place) (rw (c .before .found .given .1) at (c .before .before .before .find-bitmap .ensures))
+    bitmap-broken (a .n) (c .before .found .given .0 .0) (a .section .now) (a .values .now)
+    (rw (c .before .found .given .1) at (c .before .before .before .find-bitmap .ensures))
 
 same-length : tie.Need-same-length
 same-length c = search needs
@@ -49,8 +44,7 @@ returns-2 : tie.Need-returns-2
 returns-2 c =
     let k = c .before .before .before .before in
     let a = from k .args in
-    let r = answered (a .n) (a .section .now) (a .values .now) (ok (take (a .n) (bitsOfBytes (drop (start k) (a .section .now))))) (is k .1) in
-    (r .0, c .before .before .open-by-bits .ensures ∙ r .1)
+    bitmap-laid (a .n) (start k) (a .section .now) (a .values .now) _ (is k) (c .before .before .open-by-bits .ensures)
 
 pub read-by-bits-spec : {M : Type 1} → statement M
 read-by-bits-spec =
