@@ -1,6 +1,6 @@
 -- Bits, the highest first, and the bytes that state them: each gives the other back.
 --   withZeros                       the first k values, with zeros past the last
---   zeros-add, zeros-take, zeros-zero   in two parts, the values, and what stands past them
+--   zeros-add, zeros-take, zeros-past   in two parts, the values, and what stands past them
 --   zeros-whole, zeros-at         of k values, and one of them
 --   bits-above                      bits above the low j do not count
 --   bits-number, number-bits        the bits of the number of bits, and back
@@ -43,11 +43,11 @@ zeros-take k [] h = refl
 zeros-take zero (v ∷ vs) h = absurd (omega arith)
 zeros-take (suc k) (v ∷ vs) h = ap (λ (l : List ℕ). v ∷ l) (zeros-take k vs (omega arith))
 
-pub zeros-zero : (k : ℕ) (vs : List ℕ) → every (eqb 0) (drop (length vs) (withZeros k vs)) ≡ true
-zeros-zero zero [] = refl
-zeros-zero (suc k) [] = zeros-zero k []
-zeros-zero zero (v ∷ vs) = refl
-zeros-zero (suc k) (v ∷ vs) = zeros-zero k vs
+pub zeros-past : (k : ℕ) (vs : List ℕ) → every (eqb 0) (drop (length vs) (withZeros k vs)) ≡ true
+zeros-past zero [] = refl
+zeros-past (suc k) [] = zeros-past k []
+zeros-past zero (v ∷ vs) = refl
+zeros-past (suc k) (v ∷ vs) = zeros-past k vs
 
 pub zeros-whole : (k : ℕ) (vs : List ℕ) → length vs ≡ k → withZeros k vs ≡ vs
 zeros-whole zero [] h = refl
