@@ -8,8 +8,10 @@ ghost use Rattle.format.specs.Booleans.{bitsOfBytes, bitmapSize, readBooleans};
 ghost use Rattle.format.specs.Acts.{laid};
 ghost use Rattle.booleans.specs.Section.{answerOf};
 ghost use Rattle.bench_booleans.specs.Rows.{readNumber, rowNumber, rowValues};
+use booleans::BITS;
 use booleans::Bitmap;
 use booleans::BooleansRead;
+use booleans::HIGHEST;
 
 // Lays the n bits of the bytes from `start` on, each by itself.
 fn open_by_bits(section: &[u8], start: usize, n: usize, values: &mut [u64])
@@ -18,9 +20,7 @@ fn open_by_bits(section: &[u8], start: usize, n: usize, values: &mut [u64])
 {
     let mut i = 0;
     while i < n {
-        values[i] = ((section[start + i / booleans::BITS]
-            >> (booleans::HIGHEST - i % booleans::BITS))
-            % 2) as u64;
+        values[i] = ((section[start + i / BITS] >> (HIGHEST - i % BITS)) % 2) as u64;
         i += 1;
     }
 }
