@@ -8,7 +8,7 @@
 # make uninstall        removes what install put there
 .PHONY: run test lib test-interface bench bench-docs install uninstall
 
-VERSION = 0.5.0
+VERSION = 0.4.0
 PREFIX = /usr/local
 DESTDIR =
 ARCHIVE = target/staticlib/libtsm.a

@@ -1,9 +1,7 @@
 /* TSM files: check an image, find an entry, read a block or a point, write, unroll and merge images.
  *
  * An image is the whole of a TSM file, as bytes in memory; a roll is the plain list of its series. A key is a byte
- * string. A time is a signed 64-bit number. A value is 64 bits in a slot, an int64_t: of an integer key the number
- * itself, of a boolean key 0 or 1, of an unsigned key the bits of the unsigned number. Cast such a slot to uint64_t to
- * read it: a number of 2^63 or more shows as a negative slot.
+ * string. Times and values are signed 64-bit numbers; the value of a boolean point is 0 or 1.
  *
  * Each function answers a struct by value. Its first part, `answer`, holds TSM_OK, or the number of the one refusal that
  * applies (enum tsm_refusal). On a refusal every other field is 0, and every lent buffer is left as it was. On a success
@@ -42,9 +40,8 @@ extern "C" {
 
 /* What the values of a key are. */
 enum tsm_kind {
-    TSM_INTEGER = 1, /* signed 64-bit numbers: the slot as it is */
-    TSM_BOOLEAN = 2, /* 0 for false, 1 for true */
-    TSM_UNSIGNED = 4 /* unsigned 64-bit numbers: (uint64_t)slot */
+    TSM_INTEGER = 1,
+    TSM_BOOLEAN = 2
 };
 
 /* The numbers of an answer: success, or why a function refuses. */
@@ -56,7 +53,7 @@ enum tsm_refusal {
     TSM_INDEX_START = 4,      /* the index starts inside the header, or past the start of the footer */
     TSM_ENTRY_PAST_INDEX = 5, /* an index entry runs past the end of the index */
     TSM_KEY_LENGTH = 6,       /* a key is empty or longer than 1,024 bytes */
-    TSM_UNKNOWN_KIND = 7,     /* the kind of a key is not integer, boolean or unsigned */
+    TSM_UNKNOWN_KIND = 7,     /* the kind of a key is neither integer nor boolean */
     TSM_NO_BLOCKS = 8,        /* a key has no blocks */
     TSM_KEY_ORDER = 9,        /* a key is not above the key before it */
     TSM_TIME_ORDER = 10,      /* the times of an index entry are not in order */
@@ -113,7 +110,7 @@ struct tsm_block {
 struct tsm_point {
     struct tsm_answer answer;
     struct tsm_entry entry; /* the block that holds the point */
-    int64_t value;          /* the slot of the point's value; of an unsigned key, cast it to uint64_t */
+    int64_t value;          /* the point's value */
 };
 
 /* What tsm_write, tsm_unroll and tsm_merge answer. */
@@ -131,14 +128,12 @@ struct tsm_checked tsm_check(const uint8_t *image, size_t image_len);
 struct tsm_found tsm_find(const uint8_t *image, size_t image_len, const uint8_t *key, size_t key_len, int64_t time);
 
 /* Reads the block that covers a time of a key: finds its entry as tsm_find does, checks the block, and writes its
- * points to the first cells of times and of values. A cell of values is a slot: where entry.kind is TSM_UNSIGNED, cast
- * it to uint64_t. Buffers of TSM_BLOCK_MOST cells are long enough.
+ * points to the first cells of times and of values. Buffers of TSM_BLOCK_MOST cells are long enough.
  * Refusals: 1 to 11, 17, 18, 12 to 16, 19. */
 struct tsm_block tsm_read_block(const uint8_t *image, size_t image_len, const uint8_t *key, size_t key_len,
                                 int64_t time, int64_t *times, size_t times_len, int64_t *values, size_t values_len);
 
-/* Reads the value of a key at exactly a time: finds its entry as tsm_find does, and checks the block. The value is a slot:
- * where entry.kind is TSM_UNSIGNED, cast it to uint64_t.
+/* Reads the value of a key at exactly a time: finds its entry as tsm_find does, and checks the block.
  * Refusals: 1 to 11, 17, 18, 12 to 16, 23. */
 struct tsm_point tsm_read_point(const uint8_t *image, size_t image_len, const uint8_t *key, size_t key_len,
                                 int64_t time);
@@ -153,8 +148,7 @@ struct tsm_written tsm_write(const uint8_t *roll, size_t roll_len, uint8_t *out,
 struct tsm_written tsm_unroll(const uint8_t *image, size_t image_len, uint8_t *out, size_t out_len);
 
 /* Checks two images in full, and writes the image of their points to the first bytes of out: where both have a point
- * of one key and time, the newer image's. A key whose kinds differ, as integer and unsigned do, is refused. A buffer of
- * TSM_IMAGE_MOST bytes is long enough.
+ * of one key and time, the newer image's. A buffer of TSM_IMAGE_MOST bytes is long enough.
  * Refusals: 1 to 16 for the older image, 1 to 16 for the newer, 21, 22, 19. */
 struct tsm_written tsm_merge(const uint8_t *older, size_t older_len, const uint8_t *newer, size_t newer_len,
                              uint8_t *out, size_t out_len);

@@ -118,7 +118,7 @@ impl Pair {
 
 /// All inputs of the table.
 pub struct Inputs {
-    /// Files of one block of 1,000 points, one for each form of a section, and one of unsigned picks.
+    /// Files of one block of 1,000 points, one for each form of a section.
     pub blocks: Vec<Input>,
     /// Large files of tsm1.
     pub peer: Vec<Input>,
@@ -167,16 +167,12 @@ fn blocks() -> Vec<Input> {
     // A step of 2^61 is too long for packed words.
     let far = |row| i64::MIN + row + if row < 500 { 0 } else { 1 << 61 };
     let far = (0..1_000).map(|row| (far(row), row & 1)).collect();
-    let key = b"block".to_vec();
-    let mut random = Random::of_case(SEED, 7);
-    let picks = unsigned_picks(&mut random, key.clone(), START, 1_000);
     for (name, kind, points) in [
         ("block_ints_raw", Kind::Integer, raw),
         ("block_ints_repeated", Kind::Integer, repeated),
         ("block_times_raw", Kind::Boolean, far),
-        ("block_unsigned_picks", picks.kind, picks.points),
     ] {
-        let key = key.clone();
+        let key = b"block".to_vec();
         let input = Input::of_series(name, &[Series { key, kind, points }]);
         blocks.push(input.expect("one block fits"));
     }
@@ -238,21 +234,6 @@ fn picks(random: &mut Random, key: Vec<u8>, start: i64, count: usize) -> Series 
     }
 }
 
-/// The same counts as unsigned numbers that begin just below 2^63 and pass it. The first is too great
-/// to be packed, so the values are raw.
-fn unsigned_picks(random: &mut Random, key: Vec<u8>, start: i64, count: usize) -> Series {
-    let mut series = picks(random, key, start, count);
-    series.kind = Kind::Unsigned;
-    // The total grows by more than 1 at each pick, on average.
-    let first = i64::MAX - count as i64;
-    for (_, total) in &mut series.points {
-        *total = total.wrapping_add(first);
-    }
-    let is_past = |point: Option<&(i64, i64)>| point.is_some_and(|&(_, total)| total < 0);
-    assert!(!is_past(series.points.first()) && is_past(series.points.last()));
-    series
-}
-
 /// Integers of any size at times up to 2^40 ns apart.
 fn any(random: &mut Random, key: Vec<u8>, count: usize) -> Series {
     let mut time = START;
@@ -269,7 +250,7 @@ fn any(random: &mut Random, key: Vec<u8>, count: usize) -> Series {
     }
 }
 
-/// One to four points, integers or booleans.
+/// One to four points of either kind.
 fn few(random: &mut Random, key: Vec<u8>) -> Series {
     let count = random.between(1, 4);
     match random.coin() {
@@ -304,18 +285,12 @@ fn sheds() -> Vec<Input> {
     let long: Vec<_> = (0..8)
         .map(|number| rows(random, vec![b'a' + number; 1_000], START, 50_000))
         .collect();
-    // Twelve bytes for each point: as many looms as fit.
-    let mut random = Random::of_case(SEED, 8);
-    let totals: Vec<_> = (0..8)
-        .map(|number| unsigned_picks(&mut random, loom(number, "total"), START, 10_000))
-        .collect();
     let named = [
         ("rows with holes", holes),
         ("jittered picks", counts),
         ("random values", anything),
         ("9,000 short keys", short),
         ("8 long keys", long),
-        ("unsigned picks", totals),
     ];
     let inputs = named.map(|(name, series)| Input::of_series(name, &series).expect("it fits"));
     inputs.into()

@@ -19,9 +19,6 @@ int main(int argc, char **argv)
         tsm_read_point(image, len, (const uint8_t *)argv[2], strlen(argv[2]), strtoll(argv[3], NULL, 10));
     if (point.answer.number != TSM_OK)
         return printf("refused: %d\n", point.answer.number), 1;
-    if (point.entry.kind == TSM_UNSIGNED)
-        printf("%llu\n", (unsigned long long)point.value);
-    else
-        printf("%lld\n", (long long)point.value);
+    printf("%lld\n", (long long)point.value);
     return 0;
 }

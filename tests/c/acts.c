@@ -121,19 +121,6 @@ static Bytes sample(void)
     return image_of(TSM_BOOLEAN, "21 00 00 00 00 00 00 00 00 01 03", "10 03 80", 0, 20);
 }
 
-/* The totals: unsigned 2^64 - 1, 0 at 0, 10. Its index begins at 39. */
-static Bytes totals(void)
-{
-    return image_of(TSM_UNSIGNED, "21 00 00 00 00 00 00 00 00 01 02", "10 00 00 00 00 00 00 00 01 F0 00 00 00 00 00 00 02",
-                    0, 10);
-}
-
-/* The one total 2^63 at 10. */
-static Bytes half_way(void)
-{
-    return image_of(TSM_UNSIGNED, "1C 00 00 00 00 00 00 00 0A", "00 FF FF FF FF FF FF FF FF", 10, 10);
-}
-
 /* The sample with one byte changed. */
 static Bytes changed(size_t at, uint8_t byte)
 {
@@ -142,19 +129,13 @@ static Bytes changed(size_t at, uint8_t byte)
     return image;
 }
 
-/* An image of one key, "a", and one block, its checksum made good again. */
-static Bytes sealed(Bytes image)
-{
-    Bytes seal = {.len = 0};
-    put_be(&seal, crc32(image.bytes + 9, image.len - 51), 4);
-    memcpy(image.bytes + 5, seal.bytes, 4);
-    return image;
-}
-
 /* The sample with one byte of its block changed, and the checksum made good again. */
 static Bytes resealed(size_t at, uint8_t byte)
 {
-    return sealed(changed(at, byte));
+    Bytes image = changed(at, byte), seal = {.len = 0};
+    put_be(&seal, crc32(image.bytes + 9, 16), 4);
+    memcpy(image.bytes + 5, seal.bytes, 4);
+    return image;
 }
 
 /* ---- calls, each with canaries and with a pattern in what it may write */
@@ -418,13 +399,6 @@ static void worked_pieces(void)
                image_of(TSM_INTEGER, "10 00 00 00 00 00 00 00 00 F0 00 00 00 00 00 00 0A",
                         "00 FF FF FF FF FF FF FF FF 00 00 00 00 00 00 00 01", 0, 10),
                TSM_INTEGER, 2, tens, (int64_t[]){low, high});
-    has_points("unsigned 2^64 - 1, 0", totals(), TSM_UNSIGNED, 2, tens, (int64_t[]){-1, 0});
-    EXPECT(totals().len == 81);
-    has_points("unsigned 2^63", half_way(), TSM_UNSIGNED, 1, tens + 1, (int64_t[]){low});
-    has_points("unsigned 2^63 - 1, 2^63",
-               image_of(TSM_UNSIGNED, "21 00 00 00 00 00 00 00 00 01 02",
-                        "00 FF FF FF FF FF FF FF FE 00 00 00 00 00 00 00 02", 0, 10),
-               TSM_UNSIGNED, 2, tens, (int64_t[]){high, low});
     has_points("times 0, 1, 2^60, packed",
                image_of(TSM_BOOLEAN, "10 00 00 00 00 00 00 00 00 F0 00 00 00 00 00 00 01 FF FF FF FF FF FF FF FF", "10 03 80", 0,
                         (int64_t)1 << 60),
@@ -433,19 +407,6 @@ static void worked_pieces(void)
                image_of(TSM_BOOLEAN, "00 00 00 00 00 00 00 00 00 00 00 00 00 00 00 00 01 0F FF FF FF FF FF FF FF", "10 03 80", 0,
                         (int64_t)1 << 60),
                TSM_BOOLEAN, 3, (int64_t[]){0, 1, (int64_t)1 << 60}, (int64_t[]){1, 0, 0});
-}
-
-/* A slot of an unsigned key is cast, as tsm.h says. */
-static void slots(void)
-{
-    Outs o;
-    struct tsm_point point = read_point(totals(), hex("61"), 0), half = read_point(half_way(), hex("61"), 10);
-    struct tsm_block block = read_block(totals(), hex("61"), 0, CELLS, CELLS, &o);
-    about = "slots";
-    EXPECT(point.entry.kind == TSM_UNSIGNED && (uint64_t)point.value == UINT64_MAX);
-    EXPECT(half.entry.kind == TSM_UNSIGNED && (uint64_t)half.value == (uint64_t)1 << 63);
-    EXPECT(block.entry.kind == TSM_UNSIGNED && block.count == 2);
-    EXPECT((uint64_t)o.values[0] == UINT64_MAX && (uint64_t)o.values[1] == 0);
 }
 
 static void bare_image(void)
@@ -464,14 +425,13 @@ static void bare_image(void)
 
 static void damage(void)
 {
-    Bytes twice = sample(), other_index = totals(), other_block = totals();
+    Bytes twice = sample();
     all_refuse("first byte", changed(0, 0x17), TSM_MAGIC);
     all_refuse("version", changed(4, 2), TSM_VERSION);
     all_refuse("index start past the end", changed(66, 60), TSM_INDEX_START);
     all_refuse("two entries announced", changed(30, 2), TSM_ENTRY_PAST_INDEX);
     all_refuse("empty key", changed(26, 0), TSM_KEY_LENGTH);
     all_refuse("kind 3", changed(28, 3), TSM_UNKNOWN_KIND);
-    all_refuse("kind 5", changed(28, 5), TSM_UNKNOWN_KIND);
     all_refuse("no entry", changed(30, 0), TSM_NO_BLOCKS);
     all_refuse("min above max", changed(38, 21), TSM_TIME_ORDER);
     all_refuse("offset 6", changed(54, 6), TSM_BLOCK_PLACE);
@@ -485,10 +445,6 @@ static void damage(void)
 
     block_refused("a value bit", changed(24, 0xC0), TSM_CHECKSUM);
     block_refused("another kind in the block", resealed(9, TSM_INTEGER), TSM_BLOCK_HEAD);
-    other_index.bytes[42] = TSM_INTEGER;
-    block_refused("totals under an integer key", other_index, TSM_BLOCK_HEAD);
-    other_block.bytes[9] = TSM_INTEGER;
-    block_refused("integers under an unsigned key", sealed(other_block), TSM_BLOCK_HEAD);
     block_refused("timestamps longer than the block", resealed(10, 15), TSM_BLOCK_HEAD);
     block_refused("exponent 13", resealed(11, 0x2D), TSM_TIMESTAMPS);
     block_refused("a padding bit", resealed(24, 0x81), TSM_VALUES);
@@ -547,14 +503,9 @@ static void rolls(void)
                image_of(TSM_BOOLEAN, "10 00 00 00 00 00 00 00 00 F0 00 00 00 00 00 00 01 FF FF FF FF FF FF FF FF", "10 03 80", 0,
                         (int64_t)1 << 60));
 
-    written_as("unsigned 2^64 - 1, 0", hex("01 61 04 02 00 FF FF FF FF FF FF FF FF FF 01 0A 00"), totals());
-    written_as("unsigned 2^63", hex("01 61 04 01 14 80 80 80 80 80 80 80 80 80 01"), half_way());
-
     about = "bad rolls";
     EXPECT(write_refuses(hex("00"), BYTES, TSM_BAD_ROLL));
     EXPECT(write_refuses(hex("01 61 03 01 00 00"), BYTES, TSM_BAD_ROLL));
-    EXPECT(write_refuses(hex("01 61 05 01 00 00"), BYTES, TSM_BAD_ROLL));
-    EXPECT(write_refuses(hex("01 61 04 01 00 80 80 80 80 80 80 80 80 80 02"), BYTES, TSM_BAD_ROLL));
     EXPECT(write_refuses(hex("01 61 02 02 00 01 00 01"), BYTES, TSM_BAD_ROLL));
     EXPECT(write_refuses(hex("01 61 02 01 80 00 01"), BYTES, TSM_BAD_ROLL));
     EXPECT(write_refuses(hex("01 61 02 01 00 02"), 0, TSM_BAD_ROLL));
@@ -572,8 +523,6 @@ static void merges(void)
     Bytes both = image_of(TSM_BOOLEAN, "21 00 00 00 00 00 00 00 00 01 04", "10 04 D0", 0, 30);
     Bytes newer = image_of(TSM_BOOLEAN, "21 00 00 00 00 00 00 00 0A 02 02", "10 02 C0", 10, 30);
     Bytes integers = image_of(TSM_INTEGER, "1C FF FF FF FF FF FF FF FB", "10 00 00 00 00 00 00 00 0E", -5, -5);
-    Bytes replaced = image_of(TSM_UNSIGNED, "21 00 00 00 00 00 00 00 00 01 02",
-                              "00 00 00 00 00 00 00 00 01 FF FF FF FF FF FF FF FD", 0, 10);
     about = "merge";
     EXPECT(merges_to(bare, bare, BYTES, bare));
     EXPECT(merges_to(sample(), bare, BYTES, sample()));
@@ -582,11 +531,6 @@ static void merges(void)
     EXPECT(merges_to(sample(), newer, BYTES, both));
     EXPECT(merge_refuses(sample(), newer, both.len - 1, TSM_SHORT_BUFFER));
     EXPECT(merge_refuses(sample(), integers, BYTES, TSM_KIND_CLASH));
-    EXPECT(merges_to(totals(), half_way(), BYTES, replaced));
-    EXPECT(merges_to(half_way(), totals(), BYTES, totals()));
-    EXPECT(merge_refuses(integers, totals(), BYTES, TSM_KIND_CLASH));
-    EXPECT(merge_refuses(totals(), integers, BYTES, TSM_KIND_CLASH));
-    EXPECT(merge_refuses(totals(), sample(), BYTES, TSM_KIND_CLASH));
     EXPECT(merge_refuses(none, changed(24, 0xC0), BYTES, TSM_IMAGE_LENGTH));
     EXPECT(merge_refuses(sample(), changed(24, 0xC0), 0, TSM_CHECKSUM));
 }
@@ -596,7 +540,6 @@ int main(void)
     rolls();
     merges();
     worked_pieces();
-    slots();
     bare_image();
     damage();
     questions();

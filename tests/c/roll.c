@@ -19,8 +19,8 @@ static int failures = 0, checks = 0;
 static uint8_t image[TSM_IMAGE_MOST], unrolled[TSM_IMAGE_MOST];
 static uint8_t long_key[TSM_KEY_MOST + 1];
 
-/* Four keys, one of them a prefix of the next and one of the greatest length, with times and values at both ends. */
-static struct tsm_roll four_keys(uint8_t *bytes, size_t room)
+/* Three keys, one of them a prefix of the next and one of the greatest length, with times and values at both ends. */
+static struct tsm_roll three_keys(uint8_t *bytes, size_t room)
 {
     struct tsm_roll roll = tsm_roll_begin(bytes, room);
     int64_t i;
@@ -34,10 +34,6 @@ static struct tsm_roll four_keys(uint8_t *bytes, size_t room)
     tsm_roll_key(&roll, long_key, TSM_KEY_MOST, TSM_INTEGER, 1001);
     for (i = 0; i < 1001; i++)
         tsm_roll_point(&roll, i * i, i % 3);
-    tsm_roll_key(&roll, (const uint8_t *)"y", 1, TSM_UNSIGNED, 3);
-    tsm_roll_unsigned(&roll, INT64_MIN, UINT64_MAX);
-    tsm_roll_unsigned(&roll, 0, 0);
-    tsm_roll_unsigned(&roll, INT64_MAX, (uint64_t)1 << 63);
     tsm_roll_end(&roll);
     return roll;
 }
@@ -68,40 +64,18 @@ static void worked(void)
     returns(&roll);
 }
 
-/* A roll of unsigned totals is the same by their numbers and by their slots. */
-static void totals(void)
-{
-    static const uint8_t expected[] = {0x01, 0x61, 0x04, 0x02, 0x00, 0xff, 0xff, 0xff, 0xff,
-                                       0xff, 0xff, 0xff, 0xff, 0xff, 0x01, 0x0a, 0x00};
-    uint8_t bytes[TSM_ROLL_ROOM(1, 2)];
-    struct tsm_roll roll = tsm_roll_begin(bytes, sizeof bytes);
-    EXPECT(tsm_roll_key(&roll, (const uint8_t *)"a", 1, TSM_UNSIGNED, 2) == TSM_ROLL_OK);
-    EXPECT(tsm_roll_unsigned(&roll, 0, UINT64_MAX) == TSM_ROLL_OK);
-    EXPECT(tsm_roll_unsigned(&roll, 10, 0) == TSM_ROLL_OK);
-    EXPECT(tsm_roll_end(&roll) == TSM_ROLL_OK);
-    EXPECT(roll.length == sizeof expected && memcmp(bytes, expected, sizeof expected) == 0);
-    returns(&roll);
-    memset(bytes, 0, sizeof bytes);
-    roll = tsm_roll_begin(bytes, sizeof bytes);
-    EXPECT(tsm_roll_key(&roll, (const uint8_t *)"a", 1, TSM_UNSIGNED, 2) == TSM_ROLL_OK);
-    EXPECT(tsm_roll_point(&roll, 0, -1) == TSM_ROLL_OK);
-    EXPECT(tsm_roll_point(&roll, 10, 0) == TSM_ROLL_OK);
-    EXPECT(tsm_roll_end(&roll) == TSM_ROLL_OK);
-    EXPECT(roll.length == sizeof expected && memcmp(bytes, expected, sizeof expected) == 0);
-}
-
 /* The ends of the ranges, in a buffer that is long enough and in shorter ones, each with a byte after it that must stay. */
 static void rooms(void)
 {
-    size_t most = TSM_ROLL_ROOM(4, 1009), room;
+    size_t most = TSM_ROLL_ROOM(3, 1006), room;
     uint8_t *bytes = (uint8_t *)malloc(most);
-    struct tsm_roll whole = four_keys(bytes, most), again;
+    struct tsm_roll whole = three_keys(bytes, most), again;
     EXPECT(whole.error == TSM_ROLL_OK && whole.length < most);
     returns(&whole);
     for (room = 0; room <= whole.length; room += room < 40 || room + 40 > whole.length ? 1 : 37) {
         uint8_t *shorter = (uint8_t *)malloc(room + 1);
         shorter[room] = 0xa5;
-        again = four_keys(shorter, room);
+        again = three_keys(shorter, room);
         EXPECT(again.error == (room == whole.length ? TSM_ROLL_OK : TSM_ROLL_SHORT_BUFFER));
         EXPECT(again.length <= room && memcmp(shorter, bytes, again.length) == 0);
         EXPECT(shorter[room] == 0xa5);
@@ -130,7 +104,6 @@ static struct tsm_roll half(uint8_t *bytes, size_t room, uint8_t kind)
         EXPECT((roll).length == length); \
         EXPECT(tsm_roll_key(&(roll), (const uint8_t *)"z", 1, TSM_INTEGER, 1) == (why)); \
         EXPECT(tsm_roll_point(&(roll), 100, 1) == (why)); \
-        EXPECT(tsm_roll_unsigned(&(roll), 100, 1) == (why)); \
         EXPECT(tsm_roll_end(&(roll)) == (why)); \
         EXPECT((roll).length == length); \
     } while (0)
@@ -149,22 +122,12 @@ static void refusals(void)
     REFUSES(roll, tsm_roll_point(&roll, 6, 2), TSM_ROLL_VALUE);
     roll = half(bytes, sizeof bytes, TSM_BOOLEAN);
     REFUSES(roll, tsm_roll_point(&roll, 6, -1), TSM_ROLL_VALUE);
-    roll = half(bytes, sizeof bytes, TSM_BOOLEAN);
-    REFUSES(roll, tsm_roll_unsigned(&roll, 6, 1), TSM_ROLL_KIND);
-    roll = half(bytes, sizeof bytes, TSM_UNSIGNED);
-    REFUSES(roll, tsm_roll_unsigned(&roll, 5, 1), TSM_ROLL_TIME_ORDER);
-    roll = half(bytes, sizeof bytes, TSM_INTEGER);
-    REFUSES(roll, tsm_roll_unsigned(&roll, 6, 1), TSM_ROLL_KIND);
-    roll = tsm_roll_begin(bytes, sizeof bytes);
-    REFUSES(roll, tsm_roll_unsigned(&roll, 6, 1), TSM_ROLL_COUNT);
     roll = half(bytes, sizeof bytes, TSM_INTEGER);
     REFUSES(roll, tsm_roll_end(&roll), TSM_ROLL_COUNT);
     roll = half(bytes, sizeof bytes, TSM_INTEGER);
     REFUSES(roll, tsm_roll_key(&roll, (const uint8_t *)"c", 1, TSM_INTEGER, 1), TSM_ROLL_COUNT);
     roll = whole;
     REFUSES(roll, tsm_roll_point(&roll, 7, 1), TSM_ROLL_COUNT);
-    roll = whole;
-    REFUSES(roll, tsm_roll_unsigned(&roll, 7, 1), TSM_ROLL_COUNT);
     roll = whole;
     REFUSES(roll, tsm_roll_key(&roll, (const uint8_t *)"c", 1, TSM_INTEGER, 0), TSM_ROLL_COUNT);
     roll = whole;
@@ -178,8 +141,6 @@ static void refusals(void)
     roll = whole;
     REFUSES(roll, tsm_roll_key(&roll, (const uint8_t *)"c", 1, 3, 1), TSM_ROLL_KIND);
     roll = whole;
-    REFUSES(roll, tsm_roll_key(&roll, (const uint8_t *)"c", 1, 5, 1), TSM_ROLL_KIND);
-    roll = whole;
     EXPECT(tsm_roll_key(&roll, (const uint8_t *)"b\0", 2, TSM_BOOLEAN, 1) == TSM_ROLL_OK);
     EXPECT(tsm_roll_point(&roll, 0, 1) == TSM_ROLL_OK);
     EXPECT(tsm_roll_end(&roll) == TSM_ROLL_OK);
@@ -190,7 +151,6 @@ int main(void)
 {
     memset(long_key, 'x', sizeof long_key);
     worked();
-    totals();
     rooms();
     refusals();
     printf("tests/c/roll.c: %d checks, %d failed\n", checks, failures);

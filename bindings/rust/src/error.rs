@@ -62,7 +62,7 @@ errors! {
     4 IndexStart "the index starts inside the header, or past the start of the footer"
     5 EntryPastIndex "an index entry runs past the end of the index"
     6 KeyLength "a key is empty or longer than 1,024 bytes"
-    7 UnknownKind "the kind of a key is not integer, boolean or unsigned"
+    7 UnknownKind "the kind of a key is neither integer nor boolean"
     8 NoBlocks "a key has no blocks"
     9 KeyOrder "a key is not above the key before it"
     10 TimeOrder "the times of an index entry are not in order"

@@ -1,9 +1,9 @@
 //! TSM files: check an image, find an entry, read a block or a point, write, unroll and merge images.
 //!
 //! An image is the whole of a TSM file, as bytes; a roll is the plain list of its series. The work is done by the proved
-//! static library `libtsm.a`; this crate gives it Rust's types, values by their kind ([`Value`]), iterators over keys and
-//! blocks ([`Index`]) and points ([`Points`]), and rolls put together key by key ([`Roll`]). It uses only the standard
-//! library. The directory of `libtsm.a` is `TSM_LIB_DIR` when the crate is built, or `target/staticlib` of the repository.
+//! static library `libtsm.a`; this crate gives it Rust's types, iterators over keys and blocks ([`Index`]) and points
+//! ([`Points`]), and rolls put together key by key ([`Roll`]). It uses only the standard library. The directory of
+//! `libtsm.a` is `TSM_LIB_DIR` when the crate is built, or `target/staticlib` of the repository.
 //!
 //! ```
 //! let image = std::fs::read("../../examples/booleans.tsm")?;
@@ -23,12 +23,10 @@ mod roll;
 #[doc(hidden)] // public for tests of the C functions themselves
 #[allow(missing_docs, unsafe_code)]
 pub mod sys;
-mod value;
 mod walk;
 
 pub use error::Error;
 pub use roll::{Roll, RollError};
-pub use value::{Kind, Value};
 pub use walk::{Index, Key, Points, Series};
 
 /// The Rust examples of README.md, which are run with those of this crate.
@@ -47,6 +45,37 @@ pub const KEY_MOST: usize = 1_024;
 
 /// The greatest number of points of a block.
 pub const BLOCK_MOST: usize = 1_000;
+
+/// What the values of a key are.
+#[derive(Clone, Copy, Debug, PartialEq, Eq, Hash)]
+#[non_exhaustive]
+pub enum Kind {
+    /// Signed 64-bit numbers.
+    Integer = 1,
+    /// 0 for false, 1 for true.
+    Boolean = 2,
+}
+
+impl Kind {
+    /// The kind of a byte of a file.
+    ///
+    /// ```
+    /// assert_eq!(tsm::Kind::from_byte(2), Some(tsm::Kind::Boolean));
+    /// assert_eq!(tsm::Kind::from_byte(7), None);
+    /// ```
+    pub fn from_byte(byte: u8) -> Option<Kind> {
+        match byte {
+            1 => Some(Kind::Integer),
+            2 => Some(Kind::Boolean),
+            _ => None,
+        }
+    }
+
+    /// The byte of the kind in a file.
+    pub fn byte(self) -> u8 {
+        self as u8
+    }
+}
 
 /// The numbers of keys and points of an image.
 #[derive(Clone, Copy, Debug, PartialEq, Eq, Hash)]
@@ -79,12 +108,12 @@ pub struct Block {
     pub entry: Entry,
     /// The time of each point.
     pub times: Vec<i64>,
-    /// The slot of each point's value, which [`Value::from_slot`] reads by the entry's kind.
+    /// The value of each point; of a boolean, 0 or 1.
     pub values: Vec<i64>,
 }
 
 impl Block {
-    /// The points, each a time and the slot of its value.
+    /// The points, each a time and a value.
     ///
     /// ```
     /// let image = std::fs::read("../../examples/booleans.tsm")?;
@@ -96,21 +125,6 @@ impl Block {
     pub fn points(&self) -> impl ExactSizeIterator<Item = (i64, i64)> + '_ {
         self.times.iter().copied().zip(self.values.iter().copied())
     }
-
-    /// The points, each a time and a value by its kind.
-    ///
-    /// ```
-    /// use tsm::Value;
-    ///
-    /// let image = std::fs::read("../../examples/unsigned.tsm")?;
-    /// let block = tsm::read_block(&image, b"a", 0)?;
-    /// let points: Vec<(i64, Value)> = block.typed_points().collect();
-    /// assert_eq!(points, [(0, Value::Unsigned(u64::MAX)), (10, Value::Unsigned(0))]);
-    /// # Ok::<(), Box<dyn std::error::Error>>(())
-    /// ```
-    pub fn typed_points(&self) -> impl ExactSizeIterator<Item = (i64, Value)> + '_ {
-        typed(self.entry.kind, self.points())
-    }
 }
 
 /// A value that was read, and the entry of its block.
@@ -118,21 +132,8 @@ impl Block {
 pub struct PointRead {
     /// The entry of the block that holds the point.
     pub entry: Entry,
-    /// The slot of the value, which [`PointRead::typed`] reads by the entry's kind.
+    /// The value; of a boolean, 0 or 1.
     pub value: i64,
-}
-
-impl PointRead {
-    /// The value by its kind.
-    ///
-    /// ```
-    /// let image = std::fs::read("../../examples/booleans.tsm")?;
-    /// assert_eq!(tsm::read_point(&image, b"a", 0)?.typed(), tsm::Value::Boolean(true));
-    /// # Ok::<(), Box<dyn std::error::Error>>(())
-    /// ```
-    pub fn typed(&self) -> Value {
-        Value::from_slot(self.entry.kind, self.value)
-    }
 }
 
 /// Checks an image in full, every block included, and counts its keys and points.
@@ -202,8 +203,7 @@ pub fn read_block(image: &[u8], key: &[u8], time: i64) -> Result<Block, Error> {
 }
 
 /// Reads the block that covers a time of a key into the front of two slices, and gives its entry and the number of its
-/// points. Cells past the points are left as they were; an error leaves all. A cell of `values` is a slot, which
-/// [`Value::from_slot`] reads by the entry's kind.
+/// points. Cells past the points are left as they were; an error leaves all.
 ///
 /// # Errors
 ///
@@ -305,8 +305,7 @@ pub fn unroll_into(image: &[u8], out: &mut [u8]) -> Result<usize, Error> {
 ///
 /// # Errors
 ///
-/// Those of [`check`] for the older image, then for the newer; [`Error::KindClash`], also between integer and unsigned;
-/// [`Error::ImageTooLong`].
+/// Those of [`check`] for the older image, then for the newer; [`Error::KindClash`]; [`Error::ImageTooLong`].
 ///
 /// ```
 /// let older = std::fs::read("../../examples/booleans.tsm")?;
@@ -327,14 +326,6 @@ pub fn merge(older: &[u8], newer: &[u8]) -> Result<Vec<u8>, Error> {
 /// Those of [`merge`], then [`Error::ShortBuffer`]. A slice of [`IMAGE_MOST`] bytes is always long enough.
 pub fn merge_into(older: &[u8], newer: &[u8], out: &mut [u8]) -> Result<usize, Error> {
     length_of(sys::merge(older, newer, out))
-}
-
-/// Points of a kind, each with the value of its slot.
-fn typed(
-    kind: Kind,
-    points: impl ExactSizeIterator<Item = (i64, i64)>,
-) -> impl ExactSizeIterator<Item = (i64, Value)> {
-    points.map(move |(time, slot)| (time, Value::from_slot(kind, slot)))
 }
 
 /// An answer's number is 0 for a success, or that of an error.
@@ -396,13 +387,8 @@ mod tests {
         has(format!("#define TSM_IMAGE_MOST {IMAGE_MOST}\n"));
         has(format!("#define TSM_KEY_MOST {KEY_MOST}\n"));
         has(format!("#define TSM_BLOCK_MOST {BLOCK_MOST}\n"));
-        let (_, kinds) = header.split_once("enum tsm_kind {\n").unwrap();
-        let (kinds, _) = kinds.split_once("};").unwrap();
-        let kinds = kinds
-            .lines()
-            .map(|line| line.split([',', '/']).next().unwrap().trim());
-        let named = |kind: &Kind| format!("{} = {}", constant(&format!("{kind:?}")), kind.byte());
-        assert!(kinds.eq(Kind::ALL.iter().map(named)));
+        has(format!("TSM_INTEGER = {},", Kind::Integer.byte()));
+        has(format!("TSM_BOOLEAN = {}\n", Kind::Boolean.byte()));
         for error in Error::ALL {
             has(format!("{} = {}", constant(error.name()), error.number()));
             has(format!(" /* {} */", error.sentence()));

@@ -17,16 +17,16 @@ use lib.Signed.{lt_z, le_z}
 use lib.Dec.{ltb, leb, lit<}
 use borrow.Author.Tests.{lt-ltb, ltb-true, le-leb, leb-true}
 use Rattle.format.specs.declared.Kind.{Kind}
-use Rattle.format.specs.declared.Kind.TheVariants.{Integer, Boolean, Unsigned}
+use Rattle.format.specs.declared.Kind.TheVariants.{Integer, Boolean}
 use Rattle.format.specs.Limits.{key_most, time_least, time_most}
 use Rattle.format.specs.Choice.{every, is_empty, ascends, ascends_from}
 use Rattle.format.specs.Bytes.{AllBytes}
 use Rattle.format.specs.Varint.{varint}
 use Rattle.format.specs.Signed.{zigzag}
-use Rattle.format.specs.Kinds.{kind_byte, good_value}
+use Rattle.format.specs.Kinds.{kind_byte}
 use Rattle.format.specs.KeyOrder.{key_fits}
 use Rattle.format.specs.Meaning.{Point, Series, Meaning, point_before, series_before}
-use Rattle.format.specs.WellFormed.{good_point, good_series, well_formed, Counted}
+use Rattle.format.specs.WellFormed.{good_value, good_point, good_series, well_formed, Counted}
 use Rattle.format.specs.Roll.{roll_value, roll_later, roll_points, roll_series, writer_roll}
 use Rattle.format.proofs.Tests.{and-true, both_left, both_right, both_true, never}
 use Rattle.format.proofs.AllBelow.{below-take, below_right, every-of-below}
@@ -39,7 +39,6 @@ use Rattle.acceptance.specs.Rolls.{ValueBytes, LaterPoints, RollPoints, SeriesBy
 value-laid : (kind : Kind) (v : ℕ) (bs : List ℕ) → ValueBytes kind v bs ↔ ((good_value kind v ≡ true) × (bs ≡ roll_value kind v))
 value-laid Integer v bs = (λ (fits, is). (lt-ltb v (2 ^ 64) fits, is), λ (good, is). (ltb-true v (2 ^ 64) good, is))
 value-laid Boolean v bs = (λ (few, is). (le-leb v 1 few, is), λ (good, is). (leb-true v 1 good, is))
-value-laid Unsigned v bs = (λ (fits, is). (lt-ltb v (2 ^ 64) fits, is), λ (good, is). (ltb-true v (2 ^ 64) good, is))
 
 module _ (kind : Kind) where
   -- what a point is laid as, with what follows it

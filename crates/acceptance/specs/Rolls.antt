@@ -10,7 +10,7 @@
 use Rattle.std.specs.Prelude.{ℕ, ◌^◌, ◌≤◌, ◌<◌, ◌≡◌, true, List, [], ◌∷◌, ◌++◌, length, ℤ, pos, ◌+ℤ◌}
 use Rattle.std.specs.Int.Signed.{le_z}
 use Rattle.format.specs.declared.Kind.{Kind}
-use Rattle.format.specs.declared.Kind.TheVariants.{Integer, Boolean, Unsigned}
+use Rattle.format.specs.declared.Kind.TheVariants.{Integer, Boolean}
 use Rattle.format.specs.Limits.{key_most, time_most}
 use Rattle.format.specs.Choice.{ascends}
 use Rattle.format.specs.Signed.{signed, zigzag}
@@ -20,11 +20,10 @@ use Rattle.format.specs.KeyOrder.{key_before}
 use Rattle.format.specs.Meaning.{Point, Series, Meaning}
 use Rattle.acceptance.specs.Sections.{Signed64}
 
--- "Integers are the value itself by the same rule; booleans 0 or 1."; of unsigned "the value is the plain seven-bit number" (request 1)
+-- "Integers are the value itself by the same rule; booleans 0 or 1."
 abbrev pub ValueBytes : Kind → (v : ℕ) → (bs : List ℕ) → Type 0
 ValueBytes Integer v bs = (v < 2 ^ 64) × (bs ≡ varint (zigzag (signed v)))
 ValueBytes Boolean v bs = (v ≤ 1) × (bs ≡ varint v)
-ValueBytes Unsigned v bs = (v < 2 ^ 64) × (bs ≡ varint v)
 
 -- a point after the time before, and then others: "later ones are the plain difference, at least 1, no time passing 2^63 − 1"
 pub record LaterPoint (kind : Kind) (before : ℤ) (p : Point) (bs later : List ℕ) : Type 0 where

@@ -12,7 +12,6 @@ use Rattle.format.specs.declared.Kind.{Kind}
 use Rattle.format.specs.declared.Entry.{Entry}
 use Rattle.format.specs.Refusals.{Result, ok, refused, is_ok}
 use Rattle.format.specs.Timestamps.{read_times}
-use Rattle.format.specs.Kinds.{section_of}
 use Rattle.format.specs.Block.{read_block}
 use Rattle.format.proofs.Results.{shifted, refused-not, ok-path}
 use Rattle.format.proofs.Readings.{sections-parts}
@@ -24,7 +23,7 @@ use Rattle.timestamps.specs.Reading.{times_answer}
 use Rattle.block.specs.declared.BlockPoints.{BlockPoints}
 use Rattle.block.specs.declared.BlockPoints.TheVariants.{Count}
 use Rattle.block.specs.Answers.{block_answer}
-use Rattle.booleans.proofs.Values.{read_section-count}
+use Rattle.booleans.proofs.Values.{values-count}
 use Rattle.block.proofs.Sections.{times-at}
 use Rattle.block.proofs.Bodies.{Good, head-number, sections-broken}
 
@@ -59,7 +58,7 @@ module _ (entry : Entry) (s : List ℕ) (good : Good entry s) where
         let part = take p.T p.rest in
         let read : read_times 0 (take (next + t - next) (drop next s)) ≡ ok p.times =
         rw (width, ← rest) (unshifted p.section (read_times 0 part) p.times (sym (times-at p.section part) ∙ p.times-read)) in
-        let values = read_section-count (section_of kind) (length p.times) (p.section + p.T) (drop p.T p.rest) p.values p.values-read in
+        let values = values-count kind (length p.times) (p.section + p.T) (drop p.T p.rest) p.values p.values-read in
         let many : length p.times ≡ length good.points = sym (ap length p.points ∙ points-length p.times p.values values) in
         record {
           within = omega (arith, p.less, ap length rest, length-drop next s);

@@ -1,20 +1,23 @@
 -- Points in the fill and points to come, as lists.
 --   every-right, ascends-right   the last part of what passes
---   fill-ascends, fill-good   what a block asks of times and values in two arrays
-use Prim.Native.Nat.{ℕ}
+--   fill-ascends, fill-of-kind   what a block asks of times and values in two arrays
+use Prim.Native.Nat.{ℕ, zero, suc, ◌<◌}
 use mathlib.Core.Path.{◌≡◌, refl}
 use mathlib.Core.Bool.{Bool, true, ◌&&◌}
 use mathlib.Core.List.{List, [], ◌∷◌, ◌++◌}
 use native.Mathlib.Omega.{arith}
 use lib.IntN.{ℤ}
 use lib.Signed.{lt_z, le_z}
-use lib.ListN.{length}
+use lib.Dec.{leb}
+use lib.ListN.{length, get_or}
+use borrow.Author.Tests.{leb-true}
 use Rattle.format.specs.declared.Kind.{Kind}
-use Rattle.format.specs.Choice.{every, ascends, ascends_from, Each}
-use Rattle.format.specs.Kinds.{good_value}
+use Rattle.format.specs.declared.Kind.TheVariants.{Integer, Boolean}
+use Rattle.format.specs.Choice.{every, ascends, ascends_from}
 use Rattle.format.specs.Meaning.{Point, point_of, point_before}
 use Rattle.format.specs.WellFormed.{good_point}
 use Rattle.format.specs.Block.{points_from}
+use Rattle.block_writer.specs.Fits.{OfKind}
 use Rattle.format.proofs.Tests.{both_right, both_left}
 use Rattle.format.specs.Limits.{time_least, time_most}
 
@@ -51,14 +54,20 @@ fill-ascends [] vs ps same e = refl
 fill-ascends (t ∷ ts) [] ps same e = absurd (omega (arith, same))
 fill-ascends (t ∷ ts) (v ∷ vs) ps same e = times-up (point_of t v) ts vs ps (omega (arith, same)) e
 
--- ---- the values in the fill
+-- ---- values of a kind
 
-pub fill-good : (kind : Kind) (ts : List ℤ) (vs : List ℕ) (ps : List Point) → length ts ≡ length vs → every (good_point kind) (points_from ts vs ++ ps) ≡ true
-    → Each (λ v. good_value kind v ≡ true) vs
-fill-good kind ts [] ps same e = tt
-fill-good kind [] (v ∷ vs) ps same e = absurd (omega (arith, same))
-fill-good kind (t ∷ ts) (v ∷ vs) ps same e =
-    let point = both_left (good_point kind (point_of t v)) (every (good_point kind) (points_from ts vs ++ ps)) e in (
-      both_right (le_z time_least t && le_z t time_most) (good_value kind v) point,
-      fill-good kind ts vs ps (omega (arith, same)) (both_right (good_point kind (point_of t v)) (every (good_point kind) (points_from ts vs ++ ps)) e),
-    )
+bit : (p : Point) → good_point Boolean p ≡ true → p.value < 2
+bit p e = omega (arith, leb-true p.value 1 (both_right (le_z time_least p.time && le_z p.time time_most) (leb p.value 1) e))
+
+bits-here : (ts : List ℤ) (vs : List ℕ) (ps : List Point) → length ts ≡ length vs → every (good_point Boolean) (points_from ts vs ++ ps) ≡ true
+    → (i : ℕ) → get_or vs i 0 < 2
+bits-here [] [] ps same e i = omega arith
+bits-here [] (v ∷ vs) ps same e i = absurd (omega (arith, same))
+bits-here (t ∷ ts) [] ps same e i = absurd (omega (arith, same))
+bits-here (t ∷ ts) (v ∷ vs) ps same e zero = bit (point_of t v) (both_left (good_point Boolean (point_of t v)) (every (good_point Boolean) (points_from ts vs ++ ps)) e)
+bits-here (t ∷ ts) (v ∷ vs) ps same e (suc i) =
+    bits-here ts vs ps (omega (arith, same)) (both_right (good_point Boolean (point_of t v)) (every (good_point Boolean) (points_from ts vs ++ ps)) e) i
+
+pub fill-of-kind : (kind : Kind) (ts : List ℤ) (vs : List ℕ) (ps : List Point) → length ts ≡ length vs → every (good_point kind) (points_from ts vs ++ ps) ≡ true → OfKind kind vs
+fill-of-kind Integer ts vs ps same e = tt
+fill-of-kind Boolean ts vs ps same e = bits-here ts vs ps same e

@@ -32,7 +32,7 @@ use Rattle.format.proofs.Tests.{never}
 use Rattle.builder.proofs.Futures.{end-future}
 use Rattle.builder.proofs.Extends.{fits-same, extend-future, flush-room, flush-kept, entries-length}
 use Rattle.builder.specs.Passes.{Near, KeyRoom, KeyOpen, Filling, Past}
-use Rattle.builder.proofs.Fillings.{every-right, ascends-right, fill-ascends, fill-good}
+use Rattle.builder.proofs.Fillings.{every-right, ascends-right, fill-ascends, fill-of-kind}
 
 -- ---- past every image
 
@@ -167,7 +167,7 @@ module _ (mode : Mode) (kind : Kind) (ps qs : List Point) (s : Places) (times : 
       let count : (1 ≤ m) × (m ≤ writer_block_most) = (omega (arith, full), most) in
       record {
         times-fit = record { count = count; inside = in_cells.0; ascend = fill-ascends (take m times') (take m values') qs grown-even (rw with-points h.key.ascend) };
-        values-fit = record { count = count; inside = in_cells.1; good = fill-good kind (take m times') (take m values') qs grown-even (rw with-points h.key.good) };
+        values-fit = record { count = count; inside = in_cells.1; of-kind = fill-of-kind kind (take m times') (take m values') qs grown-even (rw with-points h.key.good) };
       }
 
   pub extend_fits : ExtendFits mode kind times' values' m s out
@@ -227,7 +227,7 @@ module _ (mode : Mode) (kind : Kind) (s : Places) (times : List ℤ) (values out
       let count : (1 ≤ s.filled) × (s.filled ≤ writer_block_most) = (some, omega (arith, h.key.fill, h.key.few)) in
       record {
         times-fit = record { count = count; inside = in_both.0; ascend = fill-ascends ts vs [] same h.key.ascend };
-        values-fit = record { count = count; inside = in_both.1; good = fill-good kind ts vs [] same h.key.good };
+        values-fit = record { count = count; inside = in_both.1; of-kind = fill-of-kind kind ts vs [] same h.key.good };
       }
 
   last-room : 1 ≤ s.filled → FlushFits mode kind f s out

@@ -11,17 +11,18 @@ use native.Mathlib.Omega.{arith}
 use lib.IntN.{ℤ, ◌-ℤ◌, nat_abs}
 use lib.ListN.{length, drop, length-append, length-drop}
 use Rattle.format.specs.declared.Kind.{Kind}
+use Rattle.format.specs.declared.Kind.TheVariants.{Integer, Boolean}
 use Rattle.format.specs.Limits.{header_size, footer_size, writer_block_most}
 use Rattle.format.specs.Choice.{Each}
 use Rattle.format.specs.Bytes.{big_bytes}
-use Rattle.format.specs.Signed.{zigzag}
+use Rattle.format.specs.Signed.{signed, zigzag}
 use Rattle.format.specs.Varint.{varint}
 use Rattle.format.specs.Kinds.{kind_byte}
 use Rattle.format.specs.Meaning.{Point, Series, Meaning}
 use Rattle.format.specs.WellFormed.{well_formed}
 use Rattle.format.specs.Block.{block_bytes}
 use Rattle.format.specs.Index.{entry_size, entry_bytes, key_head}
-use Rattle.format.specs.Roll.{roll_number, roll_value, roll_later, roll_points, roll_series, writer_roll}
+use Rattle.format.specs.Roll.{roll_value, roll_later, roll_points, roll_series, writer_roll}
 use Rattle.format.specs.Writer.{chunks_from, chunks, series_blocks, writer_entries, series_index, writer_blocks, writer_index, writer_image}
 use Rattle.format.proofs.Lists.{flat_map-length, has_one}
 use Rattle.numbers.proofs.BigEndian.{big_bytes-length}
@@ -37,7 +38,8 @@ use Rattle.file_laws.proofs.WriterBlocks.{blocks_for, blocks-count, blocks-entri
 -- ---- a roll
 
 value-least : (kind : Kind) (v : ℕ) → 1 ≤ length (roll_value kind v)
-value-least kind v = varint-length-least (roll_number kind v)
+value-least Integer v = varint-length-least (zigzag (signed v))
+value-least Boolean v = varint-length-least v
 
 -- a point's fields and what follows them
 point-least : (n : ℕ) (kind : Kind) (v : ℕ) (rest : List ℕ) → 2 + length rest ≤ length (varint n ++ roll_value kind v ++ rest)

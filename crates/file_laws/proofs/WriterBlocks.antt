@@ -14,17 +14,15 @@ use lib.Signed.{lt_z, mag}
 use lib.ListN.{length, length-append, length-map}
 use borrow.Author.Tests.{ltb-true, leb-true, lt-ltb}
 use Rattle.format.specs.declared.Kind.{Kind}
-use Rattle.format.specs.declared.Section.{Section}
-use Rattle.format.specs.declared.Section.TheVariants.{Integers, Booleans}
+use Rattle.format.specs.declared.Kind.TheVariants.{Integer, Boolean}
 use Rattle.format.specs.Limits.{read_block_most}
 use Rattle.format.specs.Choice.{Each}
 use Rattle.format.specs.Meaning.{Point}
 use Rattle.format.specs.Varint.{varint}
 use Rattle.format.specs.Timestamps.{times_section}
 use Rattle.format.specs.Booleans.{booleans_section}
-use Rattle.format.specs.Kinds.{section_of, can_hold, good_value}
-use Rattle.format.specs.Integers.{integers_section}
-use Rattle.format.specs.Block.{writer_section, values_section, first_time, last_time, body_bytes, block_bytes}
+use Rattle.format.specs.WellFormed.{good_value}
+use Rattle.format.specs.Block.{values_section, first_time, last_time, body_bytes, block_bytes}
 use Rattle.format.specs.Index.{entry_bytes}
 use Rattle.format.specs.Writer.{writer_entries}
 use Rattle.format.proofs.AllBelow.{each_below}
@@ -32,12 +30,12 @@ use Rattle.format.proofs.Lists.{each_map, each-image, every-each, each-flat_map,
 use Rattle.section_laws.proofs.Differences.{in_range, Times}
 use Rattle.section_laws.proofs.Timestamps.{read_times-section}
 use Rattle.section_laws.proofs.SectionLengths.{times_section-some, times_section-bytes, integers_section-bytes}
-use Rattle.section_laws.proofs.BlockLengths.{writer_section-some}
+use Rattle.section_laws.proofs.BlockLengths.{values_section-some}
 use Rattle.section_laws.proofs.Integers.{read_integers-section}
 use Rattle.merging.proofs.Sorted.{Ascending, ascends-ascending}
 use Rattle.merging.proofs.Orders.{by_time}
 use Rattle.merging.proofs.Facts.{GoodPoint}
-use Rattle.acceptance.specs.Sections.{TimesSection, KeepsSection}
+use Rattle.acceptance.specs.Sections.{TimesSection, ValuesSection}
 use Rattle.acceptance.specs.Blocks.{Block, KeepsBlock}
 use Rattle.acceptance.specs.Files.{EndToEnd}
 use Rattle.acceptance.proofs.Times.{read-times}
@@ -105,13 +103,13 @@ module _ (kind : Kind) where
 times-laid : (ts : List ℤ) → Times ts → TimesSection (times_section ts) ts
 times-laid ts t = read-times 0 (times_section ts) ts (times_section-bytes ts) (read_times-section 0 ts t)
 
-values-laid : (s : Section) (vs : List ℕ) → 1 ≤ length vs → length vs ≤ read_block_most → Each (λ v. can_hold s v ≡ true) vs
-    → KeepsSection s (writer_section s vs) vs
+values-laid : (kind : Kind) (vs : List ℕ) → 1 ≤ length vs → length vs ≤ read_block_most → Each (λ v. good_value kind v ≡ true) vs
+    → ValuesSection kind (values_section kind vs) vs
 unfolding booleans_section
-values-laid Integers vs least most good =
-    read-integers (length vs) 0 (integers_section vs) vs (integers_section-bytes vs least)
+values-laid Integer vs least most good =
+    read-integers (length vs) 0 (values_section Integer vs) vs (integers_section-bytes vs least)
     (read_integers-section 0 vs (each_below (2 ^ 64) (omega arith) vs (each_map (λ v. ltb-true v (2 ^ 64)) vs good)) least most)
-values-laid Booleans vs least most good = record { bit = each_map (λ v. leb-true v 1) vs good; bytes = refl }
+values-laid Boolean vs least most good = record { bit = each_map (λ v. leb-true v 1) vs good; bytes = refl }
 
 -- ---- a block
 
@@ -144,9 +142,9 @@ module _ (kind : Kind) (ps : List Point) (sized : Sized ps) (good : Each (GoodPo
         bytes = rw (append_assoc T (times_section ts) (values_section kind vs));
         size = refl;
         times_some = times_section-some ts some;
-        values_some = writer_section-some (section_of kind) vs (omega arith);
+        values_some = values_section-some kind vs (omega arith);
         times_section = times-laid ts times-good;
-        values_section = values-laid (section_of kind) vs (omega arith) (omega arith)
+        values_section = values-laid kind vs (omega arith) (omega arith)
             ((each-image (λ v. good_value kind v ≡ true) (λ p. p.value) ps).1 (each_map (λ p g. g.value) ps good));
         first = refl;
         last = refl;

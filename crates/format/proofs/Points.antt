@@ -3,7 +3,6 @@
 --   points-again                                 points from their own times and values
 --   first_holds, last-holds                      what holds of each time holds of the first and of the last
 --   time-good                                    the time of a good point is a signed 64-bit number
---   value-below                                  a value that a section can hold is a 64-bit pattern
 use Prim.Native.Nat.{ℕ, suc, ◌^◌, ◌≤◌, ◌<◌}
 use mathlib.Core.Path.{◌≡◌, refl, ap}
 use mathlib.Core.Bool.{true, ◌&&◌}
@@ -12,16 +11,12 @@ use native.Mathlib.Omega.{arith}
 use lib.IntN.{ℤ}
 use lib.Signed.{le_z, mag}
 use lib.ListN.{length}
-use borrow.Author.Tests.{ltb-true, leb-true}
 use Rattle.format.specs.Meaning.{Point}
 use Rattle.format.specs.declared.Kind.{Kind}
-use Rattle.format.specs.declared.Section.{Section}
-use Rattle.format.specs.declared.Section.TheVariants.{Integers, Booleans}
 use Rattle.format.specs.Limits.{time_least, time_most}
 use Rattle.format.specs.Choice.{Each}
-use Rattle.format.specs.Kinds.{can_hold, good_value}
 use Rattle.format.specs.Block.{points_from, first_time, last_time}
-use Rattle.format.specs.WellFormed.{good_point}
+use Rattle.format.specs.WellFormed.{good_value, good_point}
 use Rattle.format.proofs.Tests.{both_left}
 use Rattle.format.proofs.Orders.{time-fits}
 
@@ -57,7 +52,3 @@ module _ (P : ℤ → Type 0) where
 
 pub time-good : (kind : Kind) (p : Point) → good_point kind p ≡ true → mag p.time < 2 ^ 63
 time-good kind p good = time-fits p.time (both_left (le_z time_least p.time && le_z p.time time_most) (good_value kind p.value) good)
-
-pub value-below : (s : Section) (v : ℕ) → can_hold s v ≡ true → v < 2 ^ 64
-value-below Integers v good = ltb-true v (2 ^ 64) good
-value-below Booleans v good = omega (arith, leb-true v 1 good)

@@ -1,16 +1,21 @@
 -- What a meaning can be: the theorems use it, and no act does.
---   good_point              of a kind
+--   good_value, good_point   of a kind
 --   good_series             a key with its points in order
 --   well_formed             series in order of their keys
 --   Counted                each series has fewer than 2^64 points: what a roll's point count can state
-use Rattle.std.specs.Prelude.{◌^◌, ◌<◌, Bool, not, ◌&&◌, length, ltb}
+use Rattle.std.specs.Prelude.{ℕ, ◌^◌, ◌<◌, Bool, not, ◌&&◌, length, ltb, leb}
 use Rattle.std.specs.Int.Signed.{le_z}
 use Rattle.format.specs.declared.Kind.{Kind}
+use Rattle.format.specs.declared.Kind.TheVariants.{Integer, Boolean}
 use Rattle.format.specs.Limits.{time_least, time_most}
 use Rattle.format.specs.Choice.{every, is_empty, ascends, Each}
-use Rattle.format.specs.Kinds.{good_value}
 use Rattle.format.specs.KeyOrder.{key_fits}
 use Rattle.format.specs.Meaning.{Point, Series, Meaning, point_before, series_before}
+
+-- a value is a 64-bit pattern, of a boolean 0 or 1
+abbrev pub good_value : Kind → ℕ → Bool
+good_value Integer v = ltb v (2 ^ 64)
+good_value Boolean v = leb v 1
 
 -- a point of a kind: "Times are signed 64-bit whole numbers"
 abbrev pub good_point : Kind → Point → Bool

@@ -17,7 +17,7 @@ use Rattle.format.specs.Signed.{same_time}
 use Rattle.format.specs.Varint.{read_varint, varint}
 use Rattle.format.specs.Timestamps.{read_times}
 use Rattle.format.specs.Crc32.{crc32}
-use Rattle.format.specs.Kinds.{kind_byte, section_of}
+use Rattle.format.specs.Kinds.{kind_byte}
 use Rattle.format.specs.Meaning.{Point}
 use Rattle.format.specs.Block.{read_values, points_from, first_time, last_time, read_sections, read_body, read_block}
 use Rattle.format.specs.Index.{IndexKey}
@@ -26,10 +26,10 @@ use Rattle.format.proofs.AllBelow.{below-take, below-drop}
 use Rattle.format.proofs.Orders.{same_time-path, same-time}
 use Rattle.numbers.proofs.Varints.{read_varint-varint}
 use Rattle.section_laws.proofs.Places.{only-stands, read_times-stands}
-use Rattle.booleans.proofs.Values.{read_section-count, read_section-stands}
+use Rattle.booleans.proofs.Values.{values-count, read_values-stands}
 use Rattle.acceptance.proofs.Varints.{varint-laid}
 use Rattle.acceptance.proofs.Times.{times-read, read-times}
-use Rattle.acceptance.proofs.Blocks.{section-read, read-section}
+use Rattle.acceptance.proofs.Blocks.{values-read, read-values}
 use Rattle.theorems.specs.Faults.{Unless, UnlessSome, EndsFault, ValuesFault, TimesFault, BodyFault, BlockFault, BlocksFault, SeriesFault}
 use Rattle.theorems.proofs.Steps.{Exact, ok-exactly, leb-exactly, eqb-exactly, both-exactly, tested, require-exactly, require-exactly₂, some-exactly, then-exactly, after, within}
 use Rattle.format.proofs.Results.{only-varint}
@@ -61,11 +61,11 @@ module _ (e : Entry) (place : ℕ) where
   values-exactly section bs times all few =
       let n = length times in
       within (read_values e.kind n section bs) (λ values. ok (points_from times values)) ends
-      (some-exactly Values (λ vs. vs) _ (EndsFault e times) (read_values e.kind n section bs) _ (only-stands (read_section-stands (section_of e.kind) 0 n section bs))
-      (λ vs r. (read-section (section_of e.kind) n section bs vs all r, read_section-count (section_of e.kind) n section bs vs r))
+      (some-exactly Values (λ vs. vs) _ (EndsFault e times) (read_values e.kind n section bs) _ (only-stands (read_values-stands e.kind 0 n section bs))
+      (λ vs r. (read-values e.kind n section bs vs all r, values-count e.kind n section bs vs r))
       (λ vs (s, count). (
         vs,
-        ap (λ (m : ℕ). read_values e.kind m section bs) (sym count) ∙ section-read (section_of e.kind) section bs vs (omega arith) s,
+        ap (λ (m : ℕ). read_values e.kind m section bs) (sym count) ∙ values-read e.kind section bs vs (omega arith) s,
         refl,
       ))
       (λ vs r. ends-exactly times vs))

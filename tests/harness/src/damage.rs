@@ -2,12 +2,8 @@
 
 use tsm_reference::index::MAX_KEY;
 
-use crate::model::KINDS;
 use crate::parts::{varint_bytes, Assembled, BlockParts, Field, Parts};
 use crate::random::Random;
-
-/// Kinds that are carried, and others.
-const ANY_KINDS: [u8; 7] = [0, 1, 2, 3, 4, 5, 255];
 
 /// Breaks a rule of some part, so that all else about the image stays right.
 pub fn damage_parts(parts: &mut Parts, random: &mut Random) {
@@ -16,26 +12,20 @@ pub fn damage_parts(parts: &mut Parts, random: &mut Random) {
     }
     let place = random.below(parts.series.len());
     let series = &mut parts.series[place];
-    match random.below(11) {
-        0 => series.kind = random.pick(&ANY_KINDS),
-        1 => {
-            // Integers and unsigned numbers are told apart by their kind alone.
-            series.kind = random.pick(&KINDS);
-            let kinds = series.blocks.iter_mut().map(|block| &mut block.kind);
-            kinds.for_each(|kind| *kind = series.kind);
-        }
-        2 => series.blocks.clear(),
-        3 => {
+    match random.below(10) {
+        0 => series.kind = random.pick(&[0, 1, 2, 3, 4, 5, 255]),
+        1 => series.blocks.clear(),
+        2 => {
             series.key = random
                 .pick(&[&[][..], &[b'k'; MAX_KEY], &[b'k'; MAX_KEY + 1]])
                 .to_vec()
         }
-        4 => series.blocks.reverse(),
-        5 => {
+        3 => series.blocks.reverse(),
+        4 => {
             let other = random.below(parts.series.len());
             parts.series[place].key = parts.series[other].key.clone();
         }
-        6 => {
+        5 => {
             let other = random.below(parts.series.len());
             parts.series.swap(place, other);
         }
@@ -49,7 +39,7 @@ pub fn damage_parts(parts: &mut Parts, random: &mut Random) {
 
 fn damage_block(block: &mut BlockParts, random: &mut Random) {
     match random.below(8) {
-        0 => block.kind = random.pick(&ANY_KINDS),
+        0 => block.kind = random.pick(&[0, 1, 2, 3]),
         1 => block.min = near(block.min, random),
         2 => block.max = near(block.max, random),
         3 => {
@@ -207,16 +197,9 @@ fn change_length(mut bytes: Vec<u8>, random: &mut Random) -> Vec<u8> {
 /// Breaks a roll, or makes another of it.
 pub fn damage_roll(roll: &mut Vec<u8>, random: &mut Random) {
     for _ in 0..random.between(1, 2) {
-        match random.below(4) {
+        match random.below(3) {
             0 => change_byte(roll, random),
             1 => *roll = change_length(std::mem::take(roll), random),
-            2 => {
-                // The kind of the first key, if the key's length takes one byte.
-                let length = roll.first().copied().unwrap_or(0);
-                if let Some(kind) = roll.get_mut(1 + usize::from(length)) {
-                    *kind = random.pick(&ANY_KINDS);
-                }
-            }
             _ => {
                 // A seven-bit number that has a byte too many, or none that ends.
                 let place = random.below(roll.len() + 1);

@@ -7,25 +7,12 @@ use tsm_reference::varint;
 
 pub const INTEGER: u8 = 1;
 pub const BOOLEAN: u8 = 2;
-pub const UNSIGNED: u8 = 4;
-
-/// Every kind that is carried.
-pub const KINDS: [u8; 3] = [INTEGER, BOOLEAN, UNSIGNED];
-
-/// Every two kinds, either way round.
-pub fn two_kinds() -> impl Iterator<Item = (u8, u8)> {
-    let pairs = |older| KINDS.into_iter().map(move |newer| (older, newer));
-    KINDS
-        .into_iter()
-        .flat_map(pairs)
-        .filter(|(older, newer)| older != newer)
-}
 
 /// What a file has under one key.
 #[derive(Clone, Debug, PartialEq, Eq)]
 pub struct Series {
     pub kind: u8,
-    /// The value at each time, as a lent slot has it; at least one.
+    /// The value at each time; at least one.
     pub points: BTreeMap<i64, i64>,
 }
 
@@ -64,8 +51,7 @@ impl Model {
                 let time_number = before.map_or(zigzag(time), |before| time.abs_diff(before));
                 let value_number = match series.kind {
                     INTEGER => zigzag(value),
-                    BOOLEAN | UNSIGNED => value as u64,
-                    kind => panic!("kind {kind}"),
+                    _ => value as u64,
                 };
                 varint::append(time_number, &mut roll);
                 varint::append(value_number, &mut roll);
@@ -87,13 +73,5 @@ impl Model {
             }
         }
         Some(merged)
-    }
-
-    /// The kinds, this file's and a newer one's, of each key that has two.
-    pub fn clashes<'a>(&'a self, newer: &'a Model) -> impl Iterator<Item = (u8, u8)> + 'a {
-        newer.series.iter().filter_map(|(key, new)| {
-            let old = self.series.get(key)?;
-            (old.kind != new.kind).then_some((old.kind, new.kind))
-        })
     }
 }

@@ -7,7 +7,7 @@ use tsm_reference::simple8b::{self, PLANS};
 use tsm_reference::timestamps::POWERS;
 use tsm_reference::{block, crc32, file, varint};
 
-use crate::model::{Model, BOOLEAN, INTEGER, UNSIGNED};
+use crate::model::{Model, BOOLEAN, INTEGER};
 use crate::random::Random;
 
 /// What an image is put together from.
@@ -177,7 +177,7 @@ fn foreign_block(kind: u8, points: &[(i64, i64)], random: &mut Random) -> BlockP
     let (times, values): (Vec<i64>, Vec<i64>) = points.iter().copied().unzip();
     let times_bytes = foreign_times(&times, random);
     let values_bytes = match kind {
-        INTEGER | UNSIGNED => foreign_integers(&values, random),
+        INTEGER => foreign_integers(&values, random),
         BOOLEAN => booleans(&values),
         _ => panic!("kind {kind}"),
     };
@@ -223,7 +223,7 @@ pub fn foreign_times(times: &[i64], random: &mut Random) -> Vec<u8> {
     }
 }
 
-/// An integers section in any form that holds the values, which may be unsigned.
+/// An integers section in any form that holds the values.
 pub fn foreign_integers(values: &[i64], random: &mut Random) -> Vec<u8> {
     let mut before = 0;
     let differences = values.iter().map(|&value| {

@@ -10,7 +10,7 @@ use tsm_reference::{merge, unroll, write};
 use crate::acts::Query;
 use crate::call::Call;
 use crate::damage::{damage_image, damage_parts, damage_roll};
-use crate::model::{Model, Series, BOOLEAN, INTEGER, KINDS, UNSIGNED};
+use crate::model::{Model, Series, BOOLEAN, INTEGER};
 use crate::parts::Parts;
 use crate::random::Random;
 
@@ -253,7 +253,7 @@ fn some_of(crowd: &Model, random: &mut Random) -> Model {
     }
     if random.once_in(4) {
         let clash = series.first_entry().expect("a crowd has a first key");
-        clash.into_mut().kind = random.pick(&[INTEGER, UNSIGNED]);
+        clash.into_mut().kind = INTEGER;
     }
     Model { series }
 }
@@ -269,7 +269,7 @@ fn related(model: &Model, random: &mut Random) -> Model {
             continue;
         }
         let kind = match random.once_in(20) {
-            true => random.pick(&KINDS),
+            true => random.pick(&[INTEGER, BOOLEAN]),
             false => series.kind,
         };
         let keep_once_in = random.pick(&[1, 2, 8]);
@@ -304,7 +304,7 @@ fn key(random: &mut Random) -> Vec<u8> {
 }
 
 fn series(random: &mut Random) -> Series {
-    let kind = random.pick(&KINDS);
+    let kind = random.pick(&[INTEGER, BOOLEAN]);
     let times = times(random);
     let values = values(kind, times.len(), random);
     Series {
@@ -396,17 +396,10 @@ fn values(kind: u8, count: usize, random: &mut Random) -> Vec<i64> {
     (0..count).map(next).collect()
 }
 
-/// A value of a kind, as a lent slot has it.
 fn single_value(kind: u8, random: &mut Random) -> i64 {
-    match kind {
-        INTEGER => integer(random),
-        BOOLEAN => random.below(2) as i64,
-        UNSIGNED => unsigned(random) as i64,
-        _ => panic!("kind {kind}"),
+    if kind == BOOLEAN {
+        return random.below(2) as i64;
     }
-}
-
-fn integer(random: &mut Random) -> i64 {
     let limit = 1 << 59;
     let edges = [
         0,
@@ -423,18 +416,6 @@ fn integer(random: &mut Random) -> i64 {
         0 => random.pick(&edges),
         1 => random.up_to_bits(20) as i64,
         _ => random.any() as i64,
-    }
-}
-
-/// An unsigned number, often close to 0 and 2^64 - 1, to 2^63, or to where packing ends.
-fn unsigned(random: &mut Random) -> u64 {
-    let limit: u64 = 1 << 59;
-    let middle = random.pick(&[0, 0, 1 << 63, 1 << 63, limit, limit.wrapping_neg()]);
-    let (more, less) = (random.up_to_bits(2), random.up_to_bits(2));
-    match random.below(3) {
-        0 => random.up_to_bits(20),
-        1 => random.any(),
-        _ => middle.wrapping_add(more).wrapping_sub(less),
     }
 }
 

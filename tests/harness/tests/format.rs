@@ -5,7 +5,7 @@ use tsm_harness::data::Hex;
 use tsm_reference::index::Kind;
 use tsm_reference::integers::zigzag;
 use tsm_reference::roll::Writer;
-use tsm_reference::{block, crc32, simple8b, timestamps, varint};
+use tsm_reference::{booleans, crc32, integers, simple8b, timestamps, varint};
 
 /// The bytes of a piece: its name, then its words.
 fn piece(name: &str, words: &[&str]) -> Vec<u8> {
@@ -18,41 +18,24 @@ fn piece(name: &str, words: &[&str]) -> Vec<u8> {
         "crc32" => out.extend(crc32::checksum(words[0].as_bytes()).to_be_bytes()),
         "simple8b" => simple8b::pack(&numbers, &mut out),
         "times" => timestamps::append(&signed().collect::<Vec<_>>(), &mut Vec::new(), &mut out),
+        "integers" => integers::append(&signed().collect::<Vec<_>>(), &mut Vec::new(), &mut out),
+        "booleans" => booleans::append(&signed().collect::<Vec<_>>(), &mut out),
         "roll" => out = roll(words[0], words[1], &words[2..]),
-        _ => {
-            let kind = kind(name);
-            let values: Vec<i64> = words.iter().map(|word| value(kind, word)).collect();
-            block::append_values(kind, &values, &mut Vec::new(), &mut out);
-        }
+        _ => panic!("no piece is called {name:?}"),
     }
     out
 }
 
-/// The kind whose values are called so.
-fn kind(name: &str) -> Kind {
-    match name {
-        "integers" => Kind::Integer,
-        "booleans" => Kind::Boolean,
-        "unsigned" => Kind::Unsigned,
-        _ => panic!("no piece and no kind is called {name:?}"),
-    }
-}
-
-/// A value as a slot has it: an unsigned number's 64 bits.
-fn value(kind: Kind, word: &str) -> i64 {
-    match kind {
-        Kind::Unsigned => word.parse::<u64>().expect("an unsigned number") as i64,
-        Kind::Integer | Kind::Boolean => word.parse().expect("a number"),
-    }
-}
-
 /// The roll of one key.
-fn roll(key: &str, kind_name: &str, points: &[&str]) -> Vec<u8> {
-    let kind = kind(kind_name);
+fn roll(key: &str, kind: &str, points: &[&str]) -> Vec<u8> {
+    let kind = match kind {
+        "integers" => Kind::Integer,
+        _ => Kind::Boolean,
+    };
     let point = |word: &&str| {
-        let (time, number) = word.split_once(':').expect("a time and a value");
-        let time: i64 = time.parse().expect("a time");
-        (time, value(kind, number))
+        let (time, value) = word.split_once(':').expect("a time and a value");
+        let number = |word: &str| word.parse::<i64>().expect("a number");
+        (number(time), number(value))
     };
     let (times, values): (Vec<i64>, Vec<i64>) = points.iter().map(point).unzip();
     let mut roll = Writer::default();

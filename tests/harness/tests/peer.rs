@@ -3,7 +3,7 @@
 use tsm_harness::acts::Query;
 use tsm_harness::call::{Answer, Call, Entry};
 use tsm_harness::data::{self, unhex};
-use tsm_harness::model::{Model, BOOLEAN, INTEGER, UNSIGNED};
+use tsm_harness::model::{Model, BOOLEAN, INTEGER};
 use tsm_harness::parts::{booleans, varint_bytes, BlockParts, Parts, SeriesParts};
 use tsm_harness::trial::Trial;
 use tsm_reference::block::MAX_POINTS;
@@ -112,22 +112,11 @@ fn series_by_tsm1(name: &str) -> Vec<Series> {
                 offset: number(3) as u64,
                 size: number(4) as u32,
             }),
-            (_, Some(series)) => {
-                let value = value(series.kind, fields[1]);
-                series.points.push((number(0), value));
-            }
+            (_, Some(series)) => series.points.push((number(0), number(1))),
             (_, None) => panic!("a line before the first key of {name}"),
         }
     }
     all
-}
-
-/// A value as a lent slot has it: an unsigned number's 64 bits.
-fn value(kind: u8, number: &str) -> i64 {
-    match kind {
-        UNSIGNED => number.parse::<u64>().expect("an unsigned number") as i64,
-        _ => number.parse().expect("a number"),
-    }
 }
 
 fn files_are_accepted_or_refused(trial: &mut Trial) {
@@ -270,7 +259,7 @@ enum Verdict {
 fn sections() -> Vec<Section> {
     let text = data::text("peer/sections.txt");
     let sections: Vec<_> = text.lines().filter_map(section).collect();
-    assert_eq!(sections.len(), 519, "sections of carried kinds");
+    assert_eq!(sections.len(), 445, "sections of carried kinds");
     sections
 }
 
@@ -280,7 +269,6 @@ fn section(row: &str) -> Option<Section> {
         "times" => (true, BOOLEAN),
         "ints" => (false, INTEGER),
         "bools" => (false, BOOLEAN),
-        "unsigned" => (false, UNSIGNED),
         _ => return None,
     };
     let numbers = cells[1].split(',');
@@ -293,7 +281,7 @@ fn section(row: &str) -> Option<Section> {
     Some(Section {
         is_times,
         kind,
-        list: numbers.map(|number| value(kind, number)).collect(),
+        list: numbers.map(|n| n.parse().expect("a number")).collect(),
         bytes,
         verdict,
     })

@@ -79,7 +79,7 @@ fn expect_in_pieces(program: &Path, roll: &[u8], piece: usize, expected: &[u8]) 
 fn conformance_cases() {
     let mut cases = data::cases();
     cases.retain(|case| case.act() == "program");
-    assert_eq!(cases.len(), 233);
+    assert_eq!(cases.len(), 186);
     for program in programs() {
         for case in &cases {
             let roll = case.case.strip_prefix("program ").expect("a program case");

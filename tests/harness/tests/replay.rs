@@ -21,7 +21,7 @@ fn replay_all(guarded: Guarded) {
         );
         replayed += 1;
     }
-    assert_eq!(replayed, 10_991);
+    assert_eq!(replayed, 9_310);
 }
 
 #[test]

@@ -3,7 +3,7 @@
 use crate::booleans;
 use crate::bytes;
 use crate::crc32;
-use crate::index::{Entry, Kind, Section};
+use crate::index::{Entry, Kind};
 use crate::integers;
 use crate::refusal::{Place, Refusal};
 use crate::timestamps;
@@ -36,7 +36,7 @@ impl Points {
         &self.times[..self.count]
     }
 
-    /// The values, in the order of the times; booleans are 0 or 1, unsigned numbers their 64 bits.
+    /// The values, in the order of the times; booleans are 0 or 1.
     pub fn values(&self) -> &[i64] {
         &self.values[..self.count]
     }
@@ -80,9 +80,9 @@ impl Points {
 
         let section = &image[values..entry.end()];
         let slots = &mut self.values[..self.count];
-        match entry.kind.section() {
-            Section::Integers => integers::read(section, slots),
-            Section::Booleans => booleans::read(section, slots),
+        match entry.kind {
+            Kind::Integer => integers::read(section, slots),
+            Kind::Boolean => booleans::read(section, slots),
         }
         .map_err(|place| Refusal::Values(values + place))?;
 
@@ -135,18 +135,13 @@ pub fn append(kind: Kind, points: &Points, space: &mut Space, out: &mut Vec<u8>)
     varint::append(section.len() as u64, out);
     out.extend_from_slice(section);
 
-    append_values(kind, points.values(), numbers, out);
+    match kind {
+        Kind::Integer => integers::append(points.values(), numbers, out),
+        Kind::Boolean => booleans::append(points.values(), out),
+    }
     let body = block + CHECKSUM;
     let checksum = crc32::checksum(&out[body..]);
     out[block..body].copy_from_slice(&checksum.to_be_bytes());
-}
-
-/// Appends our writer's values section, with working space for its numbers.
-pub fn append_values(kind: Kind, values: &[i64], numbers: &mut Vec<u64>, out: &mut Vec<u8>) {
-    match kind.section() {
-        Section::Integers => integers::append(values, numbers, out),
-        Section::Booleans => booleans::append(values, out),
-    }
 }
 
 #[cfg(test)]
@@ -162,19 +157,5 @@ mod tests {
         let body = [2, 0x0b, 0x21, 0, 0, 0, 0, 0, 0, 0, 0, 1, 3, 0x10, 3, 0x80];
         assert_eq!(out[CHECKSUM..], body);
         assert_eq!(out.len(), 20);
-    }
-
-    #[test]
-    fn an_unsigned_block_is_the_integers_one_but_for_the_kind() {
-        let mut points = Points::default();
-        points.extend(&[0, 10], &[-1, 0]);
-        let body = |kind| {
-            let mut out = Vec::new();
-            append(kind, &points, &mut Space::default(), &mut out);
-            out.split_off(CHECKSUM)
-        };
-        let (unsigned, integers) = (body(Kind::Unsigned), body(Kind::Integer));
-        assert_eq!((unsigned[0], integers[0]), (4, 1));
-        assert_eq!(unsigned[1..], integers[1..]);
     }
 }

@@ -21,14 +21,6 @@ const SIZE: usize = 24;
 pub enum Kind {
     Integer,
     Boolean,
-    Unsigned,
-}
-
-/// The section that holds the values of a kind.
-#[derive(Clone, Copy, Debug, PartialEq, Eq)]
-pub enum Section {
-    Integers,
-    Booleans,
 }
 
 impl Kind {
@@ -36,7 +28,6 @@ impl Kind {
         match self {
             Kind::Integer => 1,
             Kind::Boolean => 2,
-            Kind::Unsigned => 4,
         }
     }
 
@@ -44,17 +35,7 @@ impl Kind {
         match byte {
             1 => Some(Kind::Integer),
             2 => Some(Kind::Boolean),
-            4 => Some(Kind::Unsigned),
             _ => None,
-        }
-    }
-
-    /// Unsigned numbers are the integers of the same 64 bits.
-    pub fn section(self) -> Section {
-        match self {
-            Kind::Integer => Section::Integers,
-            Kind::Boolean => Section::Booleans,
-            Kind::Unsigned => Section::Integers,
         }
     }
 }
@@ -231,18 +212,4 @@ pub fn find<'a>(image: &'a [u8], key: &[u8]) -> Result<Series<'a>, Refusal> {
         }
     })?;
     found.ok_or(Refusal::NoSuchKey)
-}
-
-#[cfg(test)]
-mod tests {
-    use super::*;
-
-    #[test]
-    fn kinds_are_1_2_and_4() {
-        for byte in 0..=u8::MAX {
-            let known = Kind::from_byte(byte);
-            assert_eq!(known.is_some(), [1, 2, 4].contains(&byte), "{byte}");
-            assert!(known.is_none_or(|kind| kind.byte() == byte));
-        }
-    }
 }

@@ -1,5 +1,4 @@
-//! The integers section: the first value, then wrapped differences, each doubled. Unsigned values
-//! stand in it by the same 64 bits.
+//! The integers section: the first value, then wrapped differences, each doubled.
 
 use crate::bytes;
 use crate::refusal::Place;
@@ -143,37 +142,6 @@ mod tests {
         assert_eq!(section(&[0, more])[0], RAW);
         assert_eq!(section(&[most])[0], PACKED);
         assert_eq!(section(&[more])[0], RAW);
-    }
-
-    /// The section of unsigned values.
-    fn unsigned(values: &[u64]) -> Vec<u8> {
-        let same_bits: Vec<i64> = values.iter().map(|&value| value as i64).collect();
-        section(&same_bits)
-    }
-
-    #[test]
-    fn unsigned_values_by_their_bits() {
-        let half = 1 << 63;
-        assert_eq!(
-            unsigned(&[u64::MAX, 0]),
-            [0x10, 0, 0, 0, 0, 0, 0, 0, 1, 0xf0, 0, 0, 0, 0, 0, 0, 2]
-        );
-        // 2^63 is stored as 2^64 - 1, and 2^63 - 1 as one less.
-        assert_eq!(unsigned(&[half]), [&[0x00][..], &[0xff; 8]].concat());
-        let mut past_half = vec![0x00];
-        past_half.extend((u64::MAX - 1).to_be_bytes());
-        past_half.extend(2_u64.to_be_bytes());
-        past_half.extend(1_u64.to_be_bytes());
-        assert_eq!(unsigned(&[half - 1, half, half - 1]), past_half);
-        // Steps of one over the greatest number, and of half of all numbers.
-        assert_eq!(
-            unsigned(&[u64::MAX - 1, u64::MAX, 0]),
-            [0x20, 0, 0, 0, 0, 0, 0, 0, 3, 2, 2]
-        );
-        let mut halves = vec![0x20, 0, 0, 0, 0, 0, 0, 0, 0];
-        halves.extend([0xff; 9]);
-        halves.extend([1, 2]);
-        assert_eq!(unsigned(&[0, half, 0]), halves);
     }
 
     #[test]

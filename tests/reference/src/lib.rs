@@ -1,5 +1,4 @@
-//! TSM files and rolls in ordinary Rust, written from the scope document (document 01) and the
-//! requests of document 02 that have landed.
+//! TSM files and rolls in ordinary Rust, written from the scope document (document 01).
 //!
 //! The tests compare the verified library with this crate, and the benchmarks measure against it.
 //! There is one module for each part of the document:
