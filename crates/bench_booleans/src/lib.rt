@@ -1,5 +1,7 @@
 // A booleans section read a byte at a time, as the library reads it, and bit by bit, so that the benchmark can compare the two:
 // exported to it alone, and with one contract. Floor 4: it stands on booleans; no act stands on it.
+#![tactic(auto)]
+
 ghost use Rattle.std.specs.Prelude.{◌≡◌, ◌+◌, ◌≤◌, length, take, drop};
 ghost use Rattle.format.specs.Bytes.{overwrite};
 ghost use Rattle.format.specs.Booleans.{bits_of_bytes, bitmap_size, read_booleans};

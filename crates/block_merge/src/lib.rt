@@ -1,5 +1,7 @@
 // The points of two decoded blocks merged into the fill of the builder, on plain numbers and slices. Floor 7: it stands
 // on builder.
+#![tactic(auto)]
+
 ghost use Rattle.std.specs.Prelude.{◌<◌, length};
 ghost use Rattle.format.specs.Limits.{writer_block_most};
 ghost use Rattle.block_merge.specs.Cells.{NextLaid, Within, RunMoved, Least, BlocksMoved, BlockCopied, Grown};
@@ -7,14 +9,14 @@ ghost use Rattle.block_merge.specs.Cells.{NextLaid, Within, RunMoved, Least, Blo
 use format::WRITER_BLOCK_MOST;
 
 // Which points come next, of the older block and of the newer.
-#[derive(Drop)]
+#[derive(Clone, Copy)]
 struct Next {
     older: usize,
     newer: usize,
 }
 
 // Where a merge stands: the next points of both blocks, and how many points the fill has.
-#[derive(Drop)]
+#[derive(Clone, Copy)]
 pub struct Merged {
     pub older: usize,
     pub newer: usize,

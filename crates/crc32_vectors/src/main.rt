@@ -1,6 +1,8 @@
 // Published vectors of CRC-32, run through the proved checksum, a line for each: the check value of the catalogue of CRCs,
 // the examples of AUTOSAR's CRC library, and the test messages of RFC 1321 and RFC 3720 and the pangram, with the sums that
 // zlib gives. Floor 3: it stands on crc32.
+#![tactic(auto)]
+
 ghost use Rattle.std.specs.Prelude.{◌≡◌};
 ghost use Rattle.format.specs.Crc32.{crc32};
 

@@ -1,5 +1,7 @@
 // The points of an image that was found good by a full check, one after the other: key by key, block by block, the block
 // being read in lent arrays. No step can be refused. Floor 5: it stands on index and block.
+#![tactic(auto)]
+
 ghost use Rattle.std.specs.Prelude.{◌≡◌, true, ◌+◌, ◌≤◌, length};
 ghost use Rattle.format.specs.Limits.{read_block_most};
 ghost use Rattle.format.specs.Refusals.{is_ok};
@@ -14,7 +16,7 @@ use format::{Entry, ImagePlace};
 use index::{Cursor, Frame, Step};
 
 // Where a feed stands in an image.
-#[derive(Drop)]
+#[derive(Clone, Copy)]
 pub struct Feed {
     // Where the index starts.
     pub start: ImagePlace,
@@ -26,14 +28,14 @@ pub struct Feed {
 }
 
 // The next key is open, or there is none.
-#[derive(Drop)]
+#[derive(Clone, Copy)]
 pub enum NextKey {
     Key(Feed),
     End,
 }
 
 // The next block of the open key is decoded, or there is none.
-#[derive(Drop)]
+#[derive(Clone, Copy)]
 pub enum NextBlock {
     Block(Feed),
     End,

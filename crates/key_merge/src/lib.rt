@@ -1,4 +1,6 @@
 // The keys of two images, taken in turn: which is next, and whether one has two kinds. Floor 7: it stands on feed and keys.
+#![tactic(auto)]
+
 ghost use Rattle.std.specs.Prelude.{◌≡◌, true, false, ◌≤◌};
 ghost use Rattle.format.specs.File.{accepted};
 ghost use Rattle.format.specs.Merge.{kinds_clash};
@@ -9,7 +11,7 @@ use feed::{Feed, NextKey};
 use index::Step;
 
 // The next key of a merge, and which images have it. The feed of an image that has it is at the key; any other stays.
-#[derive(Drop)]
+#[derive(Clone, Copy)]
 pub enum Turn {
     Key {
         older: Feed,

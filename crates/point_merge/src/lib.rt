@@ -1,5 +1,7 @@
 // The points of the open key of two images, merged and handed to the builder: block by block, so that each point is
 // moved once. Floor 7: it stands on block_merge, feed and builder.
+#![tactic(auto)]
+
 ghost use Rattle.builder.specs.Steps.{closed_key};
 ghost use Rattle.point_merge.specs.Adding.{SideReady, Settled, merged_points, PointsReady, PointsAddedAs};
 
@@ -9,7 +11,7 @@ use feed::{Feed, NextBlock};
 use format::Kind;
 
 // The points of a key are added, and no point of it is left in either feed; or a place is past every image.
-#[derive(Drop)]
+#[derive(Clone, Copy)]
 pub enum PointsAdded {
     Points {
         places: Places,

@@ -1,4 +1,6 @@
 // Our writer's timestamps section, measured and laid. Floor 3: it stands on format, numbers, section_laws and simple8b.
+#![tactic(auto)]
+
 ghost use Rattle.std.specs.Prelude.{◌≡◌, true, ◌∷◌, map, ◌+◌, ◌-◌, ◌/◌, ◌^◌, ◌<◌, ◌≤◌, length, take};
 ghost use Rattle.std.specs.Int.Signed.{lt_z};
 ghost use Rattle.format.specs.Limits.{read_block_most};
@@ -155,7 +157,7 @@ fn divide(cells: &mut [u64], count: usize, e: usize)
 }
 
 // How our writer lays a section.
-#[derive(Drop)]
+#[derive(Clone, Copy)]
 enum Layout {
     Repeated { e: usize },
     Packed { e: usize },

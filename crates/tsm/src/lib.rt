@@ -1,5 +1,7 @@
 // The C interface of the acts. Floor 8: it stands on all of them.
 // Each function answers a struct by value. On a refusal every field but those of its `answer` is 0.
+#![tactic(auto)]
+
 ghost use Rattle.std.specs.Prelude.{◌≡◌};
 ghost use Rattle.format.specs.Refusals.{refusal_number};
 ghost use Rattle.format.specs.Acts.{check_answer, find_answer, read_block_answer, read_block_times, read_block_values, read_point_answer, written_says, write_answer, write_buffer, unroll_answer, unroll_buffer, merge_answer, merge_buffer};
@@ -9,14 +11,14 @@ use format::{BlockRead, Checked, Entry, Found, PointRead, Refusal, Written};
 
 // Whether an act refuses, and why.
 #[repr(C)]
-#[derive(Drop)]
+#[derive(Clone, Copy)]
 pub struct TsmAnswer {
     pub number: u8,
 }
 
 // An index entry.
 #[repr(C)]
-#[derive(Drop)]
+#[derive(Clone, Copy)]
 pub struct TsmEntry {
     pub kind: u8,
     pub size: u32,
@@ -27,7 +29,7 @@ pub struct TsmEntry {
 
 // The answer of check.
 #[repr(C)]
-#[derive(Drop)]
+#[derive(Clone, Copy)]
 pub struct TsmChecked {
     pub answer: TsmAnswer,
     pub keys: u64,
@@ -36,7 +38,7 @@ pub struct TsmChecked {
 
 // The answer of find.
 #[repr(C)]
-#[derive(Drop)]
+#[derive(Clone, Copy)]
 pub struct TsmFound {
     pub answer: TsmAnswer,
     pub entry: TsmEntry,
@@ -44,7 +46,7 @@ pub struct TsmFound {
 
 // The answer of read block.
 #[repr(C)]
-#[derive(Drop)]
+#[derive(Clone, Copy)]
 pub struct TsmBlock {
     pub answer: TsmAnswer,
     pub entry: TsmEntry,
@@ -53,7 +55,7 @@ pub struct TsmBlock {
 
 // The answer of read point.
 #[repr(C)]
-#[derive(Drop)]
+#[derive(Clone, Copy)]
 pub struct TsmPoint {
     pub answer: TsmAnswer,
     pub entry: TsmEntry,
@@ -62,7 +64,7 @@ pub struct TsmPoint {
 
 // The answer of write, unroll and merge.
 #[repr(C)]
-#[derive(Drop)]
+#[derive(Clone, Copy)]
 pub struct TsmWritten {
     pub answer: TsmAnswer,
     pub bytes: usize,

@@ -6,58 +6,58 @@ use Rattle.numbers.proofs.Cells.{equal-part}
 use Rattle.numbers.proofs.all_equal.Statement.{statement}
 use Rattle.numbers.proofs.all_equal.Tie as tie
 
-abbrev invariant-loop : tie.invariant-loop
+abbrev invariant-loop : tie.invariant-loop-i
 invariant-loop words from to i₀ i =
     (from ≤ i) × (i ≤ to) × (every (eqb (get_or words from 0)) (take (to - i) (drop i words)) ≡ all_equal (take (to - from) (drop from words)))
 
-abbrev decreases-loop : tie.decreases-loop
+abbrev decreases-loop : tie.decreases-loop-i
 decreases-loop words from to i₀ i = to - i
 
 -- what is left, by the next number
-next : (c : tie.In-loop invariant-loop decreases-loop) →
+next : (c : tie.In-loop-i invariant-loop decreases-loop) →
     let a = c.before.before.args in
-    let i = c.before.loop.i in
+    let i = c.before.loop-i.i in
     all_equal (take (a.to - a.from) (drop a.from a.words.now))
     ≡ eqb (get_or a.words.now a.from 0) (get_or a.words.now i 0) && every (eqb (get_or a.words.now a.from 0)) (take (a.to - (i + 1)) (drop (i + 1) a.words.now))
 next c =
     let a = c.before.before.args in
-    sym c.before.loop.invariant.2 ∙ every-next a.words.now (eqb (get_or a.words.now a.from 0)) 0 c.before.loop.i a.to (omega arith) (omega arith)
+    sym c.before.loop-i.invariant.2 ∙ every-next a.words.now (eqb (get_or a.words.now a.from 0)) 0 c.before.loop-i.i a.to (omega arith) (omega arith)
 
-loop-holds : tie.Need-loop-init invariant-loop decreases-loop
+loop-holds : tie.Need-loop-i-init invariant-loop decreases-loop
 loop-holds c = (omega arith, omega arith, equal-part c.args.words.now c.args.from c.args.to (omega arith))
 
-mul-if1 : tie.Need-overflow-mul-if1 invariant-loop decreases-loop
+mul-if1 : tie.Need-offset_bounds-words-i invariant-loop decreases-loop
 mul-if1 c = search rules
 
-shared-slice-read-if1 : tie.Need-shared-slice-read-if1 invariant-loop decreases-loop
+shared-slice-read-if1 : tie.Need-bounds-words-i invariant-loop decreases-loop
 shared-slice-read-if1 c = omega arith
 
-mul-if1-2 : tie.Need-overflow-mul-if1-2 invariant-loop decreases-loop
+mul-if1-2 : tie.Need-offset_bounds-words-from invariant-loop decreases-loop
 mul-if1-2 c = search rules
 
-shared-slice-read-if1-2 : tie.Need-shared-slice-read-if1-2 invariant-loop decreases-loop
+shared-slice-read-if1-2 : tie.Need-bounds-words-from invariant-loop decreases-loop
 shared-slice-read-if1-2 c = omega arith
 
-returns : tie.Need-returns invariant-loop decreases-loop
-returns c = sym (next c.before.before.before ∙ rw (ne_eqb _ _ (λ e. c.if1.true (sym e))))
+returns : tie.Need-returns-then-words-i invariant-loop decreases-loop
+returns c = sym (next c.before.before.before ∙ rw (ne_eqb _ _ (λ e. c.if-words-i.true (sym e))))
 
-add-i : tie.Need-overflow-add-i invariant-loop decreases-loop
+add-i : tie.Need-overflow_add-i invariant-loop decreases-loop
 add-i c = omega arith
 
-loop-less : tie.Need-loop-smaller invariant-loop decreases-loop
+loop-less : tie.Need-loop-i-smaller invariant-loop decreases-loop
 loop-less c = omega arith
 
-loop-again : tie.Need-loop-preserved invariant-loop decreases-loop
-loop-again c = (omega arith, omega arith, sym (next c.before.before.before ∙ rw (eq-eqb _ _ (sym c.if1.false))))
+loop-again : tie.Need-loop-i-preserved invariant-loop decreases-loop
+loop-again c = (omega arith, omega arith, sym (next c.before.before.before ∙ rw (eq-eqb _ _ (sym c.if-words-i.false))))
 
-returns-2 : tie.Need-returns-2 invariant-loop decreases-loop
+returns-2 : tie.Need-returns invariant-loop decreases-loop
 returns-2 c =
     let a = c.before.before.args in
-    let none = part_none a.words.now c.before.loop.i a.to (omega arith) in
-    sym (ap (every (eqb (get_or a.words.now a.from 0))) none) ∙ c.before.loop.invariant.2
+    let none = part_none a.words.now c.before.loop-i.i a.to (omega arith) in
+    sym (ap (every (eqb (get_or a.words.now a.from 0))) none) ∙ c.before.loop-i.invariant.2
 
-pub all-equal-spec : {M : Type 1} → statement M
-all-equal-spec =
+pub all_equal_spec : {M : Type 1} → statement M
+all_equal_spec =
     tie.close
     (tie.spec
     invariant-loop

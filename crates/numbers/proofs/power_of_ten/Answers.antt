@@ -1,8 +1,7 @@
 -- `numbers::power_of_ten` meets its contract: the table's rule is one computed test.
 use Rattle.std.proofs.Common.{◌≡◌, ℕ, zero, suc, ◌+◌, ◌^◌, Bool, true, ◌&&◌, eqb, ltb, List, [], ◌∷◌, length, get_or, refl, arith, rules, ltb-true, lt-ltb, eqb-true}
 use Rattle.format.proofs.Tests.{both_left, both_right}
-use Rattle.numbers.proofs.power_of_ten.Statement.{statement}
-use Rattle.numbers.proofs.power_of_ten.Tie as tie
+use Rattle.numbers.proofs.power_of_ten.Goals as goal
 
 -- the table
 abbrev powers : List ℕ
@@ -22,14 +21,5 @@ power_at e (x ∷ xs) h zero l j s =
     rw z (eqb-true x (10 ^ e) (both_left (eqb x (10 ^ e)) _ h))
 power_at e (x ∷ xs) h (suc i) l j s = power_at (suc e) xs (both_right (eqb x (10 ^ e)) _ h) i (lt-ltb i (length xs) (omega (arith, ltb-true (suc i) (suc (length xs)) l))) j (omega arith)
 
-mul-result : tie.Need-overflow-mul-result
-mul-result c = search rules
-
-array-read-result : tie.Need-array-read-result
-array-read-result c = search rules
-
-returns : tie.Need-returns
+pub returns : goal.returns
 returns c = power_at 0 powers refl c.args.e (lt-ltb c.args.e 13 (omega arith)) c.args.e (omega arith)
-
-pub power-of-ten-spec : {M : Type 1} → statement M
-power-of-ten-spec = tie.close (tie.spec mul-result array-read-result returns)
