@@ -8,7 +8,7 @@ use mathlib.Core.List.{List, [], ◌∷◌, filter_map}
 use mathlib.Core.Option.{Option, none, some, Option-elim}
 use Rattle.format.specs.Choice.{Each}
 use Rattle.merging.proofs.Options.{Found, through, found_map}
-use Rattle.merging.proofs.Sorted.{Ordering, Above, Ascending, at, same?, at_head, at-skip, at_above}
+use Rattle.merging.proofs.Sorted.{Ordering, Above, Ascending, at, same?, at_here, at-skip, at_above}
 
 module _ {A : Type 0} (O : Ordering A) (f : A → Option A) (label_Kept : (x : A) → Found (λ y. O.label y ≡ O.label x) (f x)) where
   -- the first, where there is one, and the rest
@@ -35,7 +35,7 @@ module _ {A : Type 0} (O : Ordering A) (f : A → Option A) (label_Kept : (x : A
 
   at-front-same : (l : O.Label) (o : Option A) (xs : List A) → Found (λ y. O.label y ≡ l) o → Above O l xs → at O l (front o xs) ≡ o
   at-front-same l none xs h a = at_above O l xs a
-  at-front-same l (some y) xs h a = rw (← h) (at_head O y xs)
+  at-front-same l (some y) xs h a = at_here O l y xs (sym h)
 
   at-front-other : (k l : O.Label) (o : Option A) (xs : List A) → Found (λ y. O.label y ≡ l) o → k ≢ l → at O k (front o xs) ≡ at O k xs
   at-front-other k l none xs h d = refl
@@ -58,7 +58,9 @@ module _ {A : Type 0} (O : Ordering A) (f : A → Option A) (label_Kept : (x : A
   at-kept [] a l = unfold filter_map in refl
   at-kept (x ∷ xs) a l =
       elim (same? O l (O.label x)) [
-        | yes e ↦ rw (e, at_head O x xs, kept_cons x xs) (at-front-same (O.label x) (f x) (filter_map f xs) (label_Kept x) (kept_above (O.label x) xs a.0))
+        | yes e ↦
+            rw (at_here O l x xs e, kept_cons x xs)
+            (ap (λ k. at O k (front (f x) (filter_map f xs))) e ∙ at-front-same (O.label x) (f x) (filter_map f xs) (label_Kept x) (kept_above (O.label x) xs a.0))
         | no d ↦
             rw (kept_cons x xs) (at-front-other l (O.label x) (f x) (filter_map f xs) (label_Kept x) d) ∙ at-kept xs a.1 l ∙
             ap (through f) (sym (at-skip O l x xs d))

@@ -9,7 +9,7 @@ use mathlib.Core.List.{List, [], ◌∷◌}
 use Rattle.format.specs.Choice.{is_empty, Each}
 use Rattle.format.specs.Merge.{merge_by}
 use Rattle.merging.proofs.Options.{over, over_none}
-use Rattle.merging.proofs.Sorted.{Ordering, below, Above, Ascending, at, asymmetric, level, same?, is_before, is_here, is_after, placed, at_head, at-skip, at_above, above-trans}
+use Rattle.merging.proofs.Sorted.{Ordering, below, Above, Ascending, at, asymmetric, level, same?, is_before, is_here, is_after, placed, at_here, at-skip, at_above, above-trans}
 
 module _ {A : Type 0} (O : Ordering A) where
   -- the walk along an older and a newer list, and what it makes
@@ -88,17 +88,17 @@ module _ {A : Type 0} (O : Ordering A) where
       at-walk older-left a b l = sym (over_none join _)
       at-walk (older-first {x = x} {y = y} {xs = xs} {ys = ys} {zs = zs} h w) a b l =
           elim (same? O l (O.label x)) [
-            | yes e ↦ rw (e, at_head O x zs, at_head O x xs, at_above O (O.label x) (y ∷ ys) (h, above-trans O (O.label x) (O.label y) ys h b.0))
+            | yes e ↦ rw (at_here O l x zs e, at_here O l x xs e, ap (λ k. at O k (y ∷ ys)) e ∙ at_above O (O.label x) (y ∷ ys) (h, above-trans O (O.label x) (O.label y) ys h b.0))
             | no d ↦ at-skip O l x zs d ∙ at-walk w a.1 b l ∙ ap (λ o. over join o (at O l (y ∷ ys))) (sym (at-skip O l x xs d))
           ]
       at-walk (newer-first {x = x} {y = y} {xs = xs} {ys = ys} {zs = zs} h w) a b l =
           elim (same? O l (O.label y)) [
-            | yes e ↦ rw (e, at_head O y zs, at_head O y ys, at_above O (O.label y) (x ∷ xs) (h, above-trans O (O.label y) (O.label x) xs h a.0))
+            | yes e ↦ rw (at_here O l y zs e, at_here O l y ys e, ap (λ k. at O k (x ∷ xs)) e ∙ at_above O (O.label y) (x ∷ xs) (h, above-trans O (O.label y) (O.label x) xs h a.0))
             | no d ↦ at-skip O l y zs d ∙ at-walk w a b.1 l ∙ ap (over join (at O l (x ∷ xs))) (sym (at-skip O l y ys d))
           ]
       at-walk (both_first {x = x} {y = y} {xs = xs} {ys = ys} {zs = zs} e w) a b l =
           elim (same? O l (O.label y)) [
-            | yes k ↦ rw (k, at_head O y ys, ← e, at_head O x xs, e, ← label-join x y, at_head O (join x y) zs)
+            | yes k ↦ rw (at_here O l y ys k, at_here O l x xs (k ∙ sym e), at_here O l (join x y) zs (k ∙ sym (label-join x y)))
             | no d ↦
                 at-skip O l (join x y) zs (λ k. d (k ∙ label-join x y)) ∙ at-walk w a.1 b.1 l ∙
                 ap₂ (over join) (sym (at-skip O l x xs (λ k. d (k ∙ e)))) (sym (at-skip O l y ys d))

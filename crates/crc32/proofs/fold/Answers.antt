@@ -2,14 +2,10 @@
 use lib.Bits.{xor_lt}
 use borrow.Author.Rules.{rules}
 use Rattle.crc32.proofs.Folds.{folds}
-use Rattle.crc32.proofs.fold.Statement.{statement}
-use Rattle.crc32.proofs.fold.Tie as tie
+use Rattle.crc32.proofs.fold.Goals as goal
 
-returns : tie.Need-returns
+pub returns : goal.returns
 returns c =
-    let a = c.before.before.before.before.args in
+    let a = c.args in
     folds a.r.first a.r.second a.r.third a.r.fourth a.r.fifth a.w
     (xor_lt 64 a.r.first a.w (search rules) (search rules))
-
-pub fold-spec : {M : Type 1} → statement M
-fold-spec = tie.close (tie.spec returns)
