@@ -17,16 +17,16 @@ abbrev start : tie.After-struct_known-2-1 → tie.Start
 start c = c.before.before.before.before.before.before
 
 -- after the tests the numbers have room
-room : (c : tie.After-struct_known-2-1) → (start c).args.count + length (word_numbers (start c).args.word) ≤ length (start c).args.numbers-1.now
+room : (c : tie.After-struct_known-2-1) → (start c).args.count + length (word_numbers (start c).args.word) ≤ length (start c).args.numbers.now
 room c = omega (arith, count_of (start c).args.word (start c).args.selector (start c).requires.0, c.before.if-numbers-count.false, (start c).requires)
 
 -- either way they are laid
-laid : (c : tie.Joined-selector-eq0) → c.if-selector-eq0.numbers-1 ≡ splice (start c.before).args.count (word_numbers (start c.before).args.word) (start c.before).args.numbers-1.now
+laid : (c : tie.Joined-selector-eq0) → c.if-selector-eq0.numbers ≡ splice (start c.before).args.count (word_numbers (start c.before).args.word) (start c.before).args.numbers.now
 laid c =
     let a = (start c.before).args in
     ⊎_elim
-    (λ w. w.9 ∙ copied (long-holds a.word w.1.result w.1.ensures) a.count a.numbers-1.now w.6.ensures)
-    (λ w. w.9 ∙ copied (short-holds a.word w.1.result w.1.ensures) a.count a.numbers-1.now w.6.ensures)
+    (λ w. w.9 ∙ copied (long-holds a.word w.1.result w.1.ensures) a.count a.numbers.now w.6.ensures)
+    (λ w. w.9 ∙ copied (short-holds a.word w.1.result w.1.ensures) a.count a.numbers.now w.6.ensures)
     c.if-selector-eq0.branch
 
 cast-more : tie.Need-overflow_cast-more
@@ -36,7 +36,7 @@ opens-requires : tie.Need-opens-requires
 opens-requires c κs = search rules
 
 returns : tie.Need-returns-then-not-opens
-returns c = (sym c.before.opens.ensures ∙ not-true _ c.if-not-opens.true, refl)
+returns c = (sym c.before.opens.ensures ∙ not-true _ c.if-not-opens.true-raw, refl)
 
 sub-if2 : tie.Need-overflow_sub-numbers
 sub-if2 c = search rules
@@ -62,7 +62,7 @@ open-short-requires c κs = ((start c.before).requires.0, omega (arith, c.if-sel
 copy-requires-2 : tie.Need-copy-requires-else-selector-eq0
 copy-requires-2 c κs =
     let k = c.before.before.before.before.before.before in
-    let o = c.before.before.before.before.open_short-opened in
+    let o = c.before.before.before.open_short-opened in
     let h = short-holds (start k).args.word o.result o.ensures in
     (h.inside, omega (arith, h.counts, room k))
 
@@ -72,7 +72,7 @@ add-t10 c = search rules
 same_length : tie.Need-shape_of-numbers
 same_length c =
     let a = (start c.before).args in
-    ap length (laid c) ∙ splice-length a.count (word_numbers a.word) a.numbers-1.now (room c.before)
+    ap length (laid c) ∙ splice-length a.count (word_numbers a.word) a.numbers.now (room c.before)
 
 returns-3 : tie.Need-returns
 returns-3 c =
