@@ -1,8 +1,7 @@
 -- `simple8b::copy` meets its contract. The loop's invariant: the first j elements are copied.
 use mathlib.Core.Path.{◌≡◌, refl, sym, ap, ◌∙◌}
-use Prim.Native.Nat.{◌-◌, ◌≤◌}
 use native.Mathlib.Omega.{arith}
-use lib.ListN.{length, length-set}
+use lib.ListN.{length-set}
 use native.Mathlib.Numerals.{add-one}
 use lib.Seq.{paste, paste-zero, paste-suc}
 use Rattle.simple8b.proofs.Unpacking.{paste-splice}

@@ -1,11 +1,8 @@
 -- `simple8b::copy` meets its contract. The loop's invariant: the first j elements are copied.
-use mathlib.Core.Path.{◌≡◌, refl, sym, ap, ◌∙◌}
+use mathlib.Core.Path.{◌≡◌}
 use Prim.Native.Nat.{◌-◌, ◌≤◌}
-use native.Mathlib.Omega.{arith}
-use lib.ListN.{length, length-set}
-use native.Mathlib.Numerals.{add-one}
-use lib.Seq.{paste, paste-zero, paste-suc}
-use Rattle.simple8b.proofs.Unpacking.{paste-splice}
+use lib.ListN.{length}
+use lib.Seq.{paste}
 use Rattle.simple8b.proofs.copy.Given as goal
 
 abbrev pub invariant-loop-j : goal.invariant-loop-j

@@ -1,8 +1,7 @@
 -- `simple8b::count_numbers` meets its contract: the numbers counted and those of the words left are all of them.
-use native.Mathlib.Omega.{arith}
 use Prim.Native.Nat.{◌-◌}
 use lib.ListN.{length}
-use Rattle.simple8b.proofs.Counting.{Counted, counted_start, counted-room, counted_next, counted-more, counted-end}
+use Rattle.simple8b.proofs.Counting.{Counted}
 use Rattle.simple8b.proofs.count_numbers.Given as goal
 
 abbrev pub invariant-loop-place : goal.invariant-loop-place

@@ -1,11 +1,10 @@
 -- `simple8b::packed_len` meets its contract: the bytes counted and those of what is left are those of all.
-use mathlib.Core.Path.{◌≡◌, ap}
+use mathlib.Core.Path.{◌≡◌}
 use Prim.Native.Nat.{◌+◌, ◌-◌}
-use native.Mathlib.Omega.{arith}
 use lib.ListN.{length}
 use Rattle.format.specs.Simple8b.{packed_bytes}
 use Rattle.simple8b.specs.Parts.{part}
-use Rattle.simple8b.proofs.Packing.{Rest, rest-most, rest-none, rest-known, rest-step, rest-length, rest_more}
+use Rattle.simple8b.proofs.Packing.{Rest}
 use Rattle.simple8b.proofs.packed_len.Given as goal
 
 abbrev pub invariant-loop-at : goal.invariant-loop-at

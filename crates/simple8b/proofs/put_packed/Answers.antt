@@ -1,9 +1,9 @@
 -- `simple8b::put_packed` meets its contract: what is left, laid here, completes what is laid from the start.
 use mathlib.Core.Path.{refl, ap, ◌∙◌}
-use Prim.Native.Nat.{ℕ, ◌-◌}
+use Prim.Native.Nat.{ℕ}
 use native.Mathlib.Omega.{arith}
 use Rattle.format.specs.Bytes.{big_bytes, splice}
-use Rattle.simple8b.proofs.Packing.{Laying, lay-end, lay-room, lay-more, rest-known, rest-fits, rest-step}
+use Rattle.simple8b.proofs.Packing.{lay-end, lay-room, lay-more, rest-known, rest-fits, rest-step}
 use Rattle.simple8b.proofs.put_packed.Goals as goal
 
 pub loop-k-init : goal.loop-k-init

@@ -1,6 +1,5 @@
 -- `simple8b::selector_at` meets its contract: the table is that of the definition.
 use Prim.Native.Nat.{ℕ}
-use borrow.Author.Rules.{rules}
 use lib.ListN.{get_or-map}
 use Rattle.format.specs.Simple8b.{selectors}
 use Rattle.simple8b.specs.declared.Selector.{Selector}

@@ -1,5 +1,4 @@
 -- `simple8b::selector_of` meets its contract: p is the number of the word's selector.
-use borrow.Author.Rules.{rules}
 use mathlib.Core.Path.{sym, ap, ◌∙◌}
 use Rattle.simple8b.specs.Selectors.{selector_of}
 use Rattle.simple8b.proofs.selector_of.Goals as goal

@@ -1,5 +1,4 @@
 -- `simple8b::unpack_word` meets its contract: the word is that of the 8 bytes.
-use borrow.Author.Rules.{rules}
 use Rattle.simple8b.proofs.unpack_word.Goals as goal
 
 pub returns : goal.returns
