@@ -1,12 +1,8 @@
 -- `crc32::bytes` meets its contract: the bytes from `at` on, taken from the present register, give the answer.
-use borrow.Author.Rules.{rules}
-use native.Mathlib.Omega.{arith}
-use mathlib.Core.Path.{◌≡◌, refl, sym, ap, ◌∙◌}
-use Prim.Native.Nat.{ℕ, ◌≤◌, ◌-◌, ◌+◌}
+use mathlib.Core.Path.{◌≡◌}
+use Prim.Native.Nat.{◌≤◌, ◌-◌}
 use lib.ListN.{length, drop}
-use lib.Seq.{drop-length}
 use Rattle.format.specs.Crc32.{crc_from}
-use Rattle.crc32.proofs.ByBytes.{one_byte}
 use Rattle.crc32.proofs.bytes.Given as goal
 
 abbrev pub invariant-loop-at : goal.invariant-loop-at

@@ -2,7 +2,6 @@
 use native.Mathlib.Omega.{arith}
 use Prim.Native.Nat.{◌%◌}
 use Rattle.crc32.specs.Table.{Groups}
-use borrow.Author.Rules.{rules}
 use Rattle.crc32.proofs.group.Goals as goal
 
 pub returns : goal.returns

@@ -1,11 +1,9 @@
 -- `crc32::long` meets its contract: the bytes from i on, taken from the present wide register, give the answer.
 use borrow.Author.Rules.{rules}
 use native.Mathlib.Omega.{arith}
-use mathlib.Core.Path.{◌≡◌, refl, sym, subst, ◌∙◌}
-use Prim.Native.Nat.{ℕ, ◌≤◌, ◌-◌, ◌+◌}
-use lib.ListN.{length, drop}
+use mathlib.Core.Path.{refl, sym, subst, ◌∙◌}
+use Prim.Native.Nat.{ℕ}
 use lib.Bits.{bit_xor}
-use Rattle.format.specs.Crc32.{crc_from}
 use Rattle.crc32.specs.Wide.{wide, number, Later}
 use Rattle.crc32.proofs.Folds.{folded}
 use Rattle.crc32.proofs.long.Goals as goal
@@ -22,7 +20,7 @@ loop-i-preserved c =
     let q = number c.fold-r.result in (
       search rules,
       sym
-          (folded r q s at.i (λ n. (c.shared_slice_known-1.given n).fits) (omega arith)
+          (folded r q s at.i (search rules) (omega arith)
           (subst (λ (w : ℕ). Later (bit_xor r w) q) c.word.ensures c.fold-r.ensures))
           ∙ at.invariant.1,
     )

@@ -1,7 +1,6 @@
 -- `crc32::one` meets its contract: a byte is two groups of four bits.
 use lib.Bits.{bit_xor}
 use Rattle.crc32.proofs.ByGroups.{two-groups}
-use borrow.Author.Rules.{rules}
 use Rattle.crc32.proofs.one.Goals as goal
 
 pub returns : goal.returns

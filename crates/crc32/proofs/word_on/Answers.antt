@@ -7,7 +7,6 @@ use lib.Bits.{xor_zero_r}
 use Rattle.format.specs.Crc32.{shift_bits}
 use Rattle.crc32.proofs.Runs.{bits-zero}
 use Rattle.crc32.proofs.ByGroups.{by-groups}
-use borrow.Author.Rules.{rules}
 use Rattle.crc32.proofs.word_on.Goals as goal
 
 pub returns : goal.returns

@@ -1,0 +1,20 @@
+-- `crc32::eight` meets its contract: a word is two halves, of which the low one goes 32 bits further.
+use mathlib.Core.Path.{sym, ap, ap₂, ◌∙◌}
+use Prim.Native.Nat.{ℕ}
+use native.Mathlib.Omega.{arith}
+use lib.Bits.{bit_xor, xor_lt}
+use Rattle.format.specs.Crc32.{shift_bits}
+use Rattle.crc32.proofs.Runs.{bits-split}
+use Rattle.crc32.proofs.eight.Goals as goal
+
+pub overflow_cast-x-2 : goal.overflow_cast-x-2
+overflow_cast-x-2 c =
+    let at = c in
+    record { fits = omega (arith, xor_lt 64 at.args.c c.word.result (omega (arith, at.ranges.c)) (omega (arith, c.word.type_inv))) }
+
+pub returns : goal.returns
+returns c =
+    let r = c.args.c in
+    ap₂ bit_xor c.word_on.ensures c.word_on-2.ensures
+    ∙ sym (bits-split 32 32 (bit_xor r c.word.result))
+    ∙ ap (λ (x : ℕ). shift_bits 64 (bit_xor r x)) c.word.ensures

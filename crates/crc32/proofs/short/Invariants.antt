@@ -1,0 +1,12 @@
+-- `crc32::short` meets its contract: the bytes from i on, taken from the present register, give the answer.
+use mathlib.Core.Path.{◌≡◌}
+use Prim.Native.Nat.{◌≤◌, ◌<◌, ◌-◌, ◌^◌}
+use lib.ListN.{length, drop}
+use Rattle.format.specs.Crc32.{crc_from}
+use Rattle.crc32.proofs.short.Given as goal
+
+abbrev pub invariant-loop-i : goal.invariant-loop-i
+invariant-loop-i l = (l.c < 2 ^ 32) × (l.i ≤ length l.s) × (crc_from l.c (drop l.i l.s) ≡ crc_from 0xFFFF_FFFF l.s)
+
+abbrev pub decreases-loop-i : goal.decreases-loop-i
+decreases-loop-i l = length l.s - l.i
