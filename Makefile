@@ -16,7 +16,7 @@ PROGRAM = target/bin/roll_to_tsm
 
 run: $(ARCHIVE)
 	@sh .ci/tools cargo gcc
-	@rt check roll_to_tsm >target/run.log 2>&1 || { cat target/run.log; exit 1; }
+	@sh .ci/built roll_to_tsm >target/run.log 2>&1 || { cat target/run.log; exit 1; }
 	@echo "a roll, examples/booleans.roll:"
 	@od -A d -t x1 examples/booleans.roll
 	@$(PROGRAM) <examples/booleans.roll >target/booleans.tsm
@@ -32,12 +32,12 @@ test:
 	bash .ci/run
 
 lib:
-	rt staticlib tsm
+	sh .ci/built tsm
 
 # Built where it is missing.
 $(ARCHIVE):
 	@echo "proving and building the library (some minutes the first time)"
-	@mkdir -p target && rt staticlib tsm >target/lib.log 2>&1 || { cat target/lib.log; exit 1; }
+	@mkdir -p target && sh .ci/built tsm >target/lib.log 2>&1 || { cat target/lib.log; exit 1; }
 
 test-interface: $(ARCHIVE)
 	tests/c/run
@@ -45,7 +45,7 @@ test-interface: $(ARCHIVE)
 
 # The archives are built again, so that what is measured is what stands here.
 bench: lib
-	rt staticlib bench_booleans
+	sh .ci/built bench_booleans
 	@sh .ci/tools cargo gcc valgrind
 	cargo build --offline --quiet --release --manifest-path bench/Cargo.toml
 	bench/target/release/tsm_bench --plot target/bench.svg >target/bench.md

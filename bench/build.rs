@@ -13,7 +13,7 @@ fn main() {
     let library = directory.join("libbench_booleans.a");
     assert!(
         library.is_file(),
-        "{} is not there: build it with `rt staticlib bench_booleans`",
+        "{} is not there: build it with `sh .ci/built bench_booleans`",
         library.display()
     );
     println!("cargo:rerun-if-changed={}", library.display());
