@@ -22,6 +22,9 @@ FACT = re.compile(r"^\s*(?:abbrev |unfoldable |pub )+([a-z]\w*)\s*:.*Type 0\s*$"
 # Lemmas whose definition gets their name.
 LEMMAS = ["no_keys", "only_one", "step_by", "too_long", "value_len", "in_order"]
 
+# Names of arguments and of clauses that no declaration of their own shows.
+ARGUMENTS = ["iEnd", "jEnd", "sourceTimes", "sourceValues", "isSame", "isSmall", "blockTimes", "blockValues", "valuesFew", "olderFirst", "newerFirst", "tailSize", "inRange"]
+
 
 def snake(name):
     parts = []
@@ -63,7 +66,7 @@ def main():
                 if m:
                     facts.add(m.group(1))
     facts -= {"nothing", "fault"}
-    turned = {n: snake(n) for n in names}
+    turned = {n: snake(n) for n in names | set(ARGUMENTS)}
     turned.update({n: n[0].upper() + n[1:] for n in facts})
     gone = collections.Counter(turned.values())
     assert all(k == 1 for k in gone.values()), [n for n in gone if gone[n] > 1]

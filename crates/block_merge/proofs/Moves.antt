@@ -88,20 +88,20 @@ next-most {older_times} {older_values} {i} {newer_times} {newer_values} {j} h =
     let b = get_or newer_times j (pos 0) in
     (omega (arith, h.older, step-most (lt_z b a)), omega (arith, h.newer, step-most (lt_z a b)))
 
-module _ (older_times : List ℤ) (older_values : List ℕ) (iEnd : ℕ) (newer_times : List ℤ) (newer_values : List ℕ) (jEnd : ℕ) where
-  pub moved_none : (i j n : ℕ) (times : List ℤ) (values : List ℕ) → i ≤ iEnd → j ≤ jEnd
-      → Moved older_times older_values iEnd newer_times newer_values jEnd i j n times values i j n times values
+module _ (older_times : List ℤ) (older_values : List ℕ) (i_end : ℕ) (newer_times : List ℤ) (newer_values : List ℕ) (j_end : ℕ) where
+  pub moved_none : (i j n : ℕ) (times : List ℤ) (values : List ℕ) → i ≤ i_end → j ≤ j_end
+      → Moved older_times older_values i_end newer_times newer_values j_end i j n times values i j n times values
   moved_none i j n times values h k = record { older = h; newer = k; same = λ ps qs. refl }
 
   pub moved_on : {i j n : ℕ} {times : List ℤ} {values : List ℕ} {i' j' n' : ℕ} {times' : List ℤ} {values' : List ℕ} {i'' j'' n'' : ℕ} {times'' : List ℤ} {values'' : List ℕ}
-      → Moved older_times older_values iEnd newer_times newer_values jEnd i j n times values i' j' n' times' values'
-      → Moved older_times older_values iEnd newer_times newer_values jEnd i' j' n' times' values' i'' j'' n'' times'' values''
-      → Moved older_times older_values iEnd newer_times newer_values jEnd i j n times values i'' j'' n'' times'' values''
+      → Moved older_times older_values i_end newer_times newer_values j_end i j n times values i' j' n' times' values'
+      → Moved older_times older_values i_end newer_times newer_values j_end i' j' n' times' values' i'' j'' n'' times'' values''
+      → Moved older_times older_values i_end newer_times newer_values j_end i j n times values i'' j'' n'' times'' values''
   moved_on p q = record { older = q.older; newer = q.newer; same = λ ps qs. q.same ps qs ∙ p.same ps qs }
 
   module _ (i j n : ℕ) (times : List ℤ) (values : List ℕ)
-      (h : i < iEnd) (in-older : iEnd ≤ length older_times) (with-older : iEnd ≤ length older_values)
-      (k : j < jEnd) (in-newer : jEnd ≤ length newer_times) (with-newer : jEnd ≤ length newer_values)
+      (h : i < i_end) (in-older : i_end ≤ length older_times) (with-older : i_end ≤ length older_values)
+      (k : j < j_end) (in-newer : j_end ≤ length newer_times) (with-newer : j_end ≤ length newer_values)
       (in-times : n < length times) (in-values : n < length values) where
     abbrev a : ℤ
     a = get_or older_times i (pos 0)
@@ -117,7 +117,7 @@ module _ (older_times : List ℤ) (older_values : List ℕ) (iEnd : ℕ) (newer_
 
     pub next-moved : {i' j' : ℕ} {times' : List ℤ} {values' : List ℕ}
         → NextLaid older_times older_values i newer_times newer_values j times values n i' j' times' values'
-        → Moved older_times older_values iEnd newer_times newer_values jEnd i j n times values i' j' (n + 1) times' values'
+        → Moved older_times older_values i_end newer_times newer_values j_end i j n times values i' j' (n + 1) times' values'
     next-moved laid = record {
       older = omega (arith, laid.older, step-most (lt_z b a));
       newer = omega (arith, laid.newer, step-most (lt_z a b));
@@ -128,31 +128,31 @@ module _ (older_times : List ℤ) (older_values : List ℕ) (iEnd : ℕ) (newer_
             laid.time,
             laid.value,
             fuller-is n times values _ _ in-times in-values,
-            stepped older_times older_values i iEnd (lt_z b a) h in-older with-older ps,
-            stepped newer_times newer_values j jEnd (lt_z a b) k in-newer with-newer qs,
-            cells-next older_times older_values i iEnd h in-older with-older,
-            cells-next newer_times newer_values j jEnd k in-newer with-newer,
+            stepped older_times older_values i i_end (lt_z b a) h in-older with-older ps,
+            stepped newer_times newer_values j j_end (lt_z a b) k in-newer with-newer qs,
+            cells-next older_times older_values i i_end h in-older with-older,
+            cells-next newer_times newer_values j j_end k in-newer with-newer,
           )
           (append_assoc (filled n times values) _ _
           ∙ ap (λ (l : List Point). filled n times values ++ l)
-          (sym (merge-next a (get_or older_values i 0) b (get_or newer_values j 0) (cells (i + 1) iEnd older_times older_values ++ ps) (cells (j + 1) jEnd newer_times newer_values ++ qs))));
+          (sym (merge-next a (get_or older_values i 0) b (get_or newer_values j 0) (cells (i + 1) i_end older_times older_values ++ ps) (cells (j + 1) j_end newer_times newer_values ++ qs))));
     }
 
 -- ---- points of one block
 
-module _ (sourceTimes : List ℤ) (sourceValues : List ℕ) (from end : ℕ) (times : List ℤ) (values : List ℕ) (n : ℕ) where
-  pub copied_none : Copied sourceTimes sourceValues from end times values n 0 times values
+module _ (source_times : List ℤ) (source_values : List ℕ) (from end : ℕ) (times : List ℤ) (values : List ℕ) (n : ℕ) where
+  pub copied_none : Copied source_times source_values from end times values n 0 times values
   copied_none = record { same = λ ps. let e : n + 0 ≡ n = omega arith in let k : from + 0 ≡ from = omega arith in rw (e, k) }
 
-  pub copied_next : (i : ℕ) (times' : List ℤ) (values' : List ℕ) → from + i < end → end ≤ length sourceTimes → end ≤ length sourceValues
+  pub copied_next : (i : ℕ) (times' : List ℤ) (values' : List ℕ) → from + i < end → end ≤ length source_times → end ≤ length source_values
       → n + i < length times' → n + i < length values'
-      → Copied sourceTimes sourceValues from end times values n i times' values'
-      → Copied sourceTimes sourceValues from end times values n (i + 1)
-      (set times' (n + i) (get_or sourceTimes (from + i) (pos 0))) (set values' (n + i) (get_or sourceValues (from + i) 0))
+      → Copied source_times source_values from end times values n i times' values'
+      → Copied source_times source_values from end times values n (i + 1)
+      (set times' (n + i) (get_or source_times (from + i) (pos 0))) (set values' (n + i) (get_or source_values (from + i) 0))
   copied_next i times' values' more inside within in-times in-values h = record {
     same = λ ps.
         let e : n + (i + 1) ≡ n + i + 1 = omega arith in
         let k : from + (i + 1) ≡ from + i + 1 = omega arith in
         rw (e, k, fuller-is (n + i) times' values' _ _ in-times in-values, append_assoc (filled (n + i) times' values'))
-        (ap (λ (l : List Point). filled (n + i) times' values' ++ (l ++ ps)) (sym (cells-next sourceTimes sourceValues (from + i) end more inside within)) ∙ h.same ps);
+        (ap (λ (l : List Point). filled (n + i) times' values' ++ (l ++ ps)) (sym (cells-next source_times source_values (from + i) end more inside within)) ∙ h.same ps);
   }

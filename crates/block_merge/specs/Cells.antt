@@ -32,10 +32,10 @@ pub record NextLaid (older_times : List ℤ) (older_values : List ℕ) (i : ℕ)
 -- ---- points of two blocks
 
 -- the points of two blocks merged, with ps and qs after them
-abbrev pub merged : (older_times : List ℤ) → (older_values : List ℕ) → (iEnd : ℕ) → (newer_times : List ℤ) → (newer_values : List ℕ) → (jEnd : ℕ)
+abbrev pub merged : (older_times : List ℤ) → (older_values : List ℕ) → (i_end : ℕ) → (newer_times : List ℤ) → (newer_values : List ℕ) → (j_end : ℕ)
     → (i j : ℕ) → (ps qs : List Point) → List Point
-merged older_times older_values iEnd newer_times newer_values jEnd i j ps qs =
-    merge_points (cells i iEnd older_times older_values ++ ps) (cells j jEnd newer_times newer_values ++ qs)
+merged older_times older_values i_end newer_times newer_values j_end i j ps qs =
+    merge_points (cells i i_end older_times older_values ++ ps) (cells j j_end newer_times newer_values ++ qs)
 
 -- the places from `from` on, `more` of them, up to `to`
 pub record Within (times : List ℤ) (values : List ℕ) (from more to : ℕ) : Type 0 where
@@ -44,18 +44,18 @@ pub record Within (times : List ℤ) (values : List ℕ) (from more to : ℕ) : 
   pub in-values : to ≤ length values
 
 -- from i, j and n on, points of two blocks went into the fill
-pub record Moved (older_times : List ℤ) (older_values : List ℕ) (iEnd : ℕ) (newer_times : List ℤ) (newer_values : List ℕ) (jEnd : ℕ)
+pub record Moved (older_times : List ℤ) (older_values : List ℕ) (i_end : ℕ) (newer_times : List ℤ) (newer_values : List ℕ) (j_end : ℕ)
     (i j n : ℕ) (times : List ℤ) (values : List ℕ) (i' j' n' : ℕ) (times' : List ℤ) (values' : List ℕ) : Type 0 where
-  pub older : i' ≤ iEnd
-  pub newer : j' ≤ jEnd
+  pub older : i' ≤ i_end
+  pub newer : j' ≤ j_end
   pub same : (ps qs : List Point)
-      → filled n' times' values' ++ merged older_times older_values iEnd newer_times newer_values jEnd i' j' ps qs
-      ≡ filled n times values ++ merged older_times older_values iEnd newer_times newer_values jEnd i j ps qs
+      → filled n' times' values' ++ merged older_times older_values i_end newer_times newer_values j_end i' j' ps qs
+      ≡ filled n times values ++ merged older_times older_values i_end newer_times newer_values j_end i j ps qs
 
 -- the same, by `more` points
-pub record RunMoved (older_times : List ℤ) (older_values : List ℕ) (iEnd : ℕ) (newer_times : List ℤ) (newer_values : List ℕ) (jEnd : ℕ)
+pub record RunMoved (older_times : List ℤ) (older_values : List ℕ) (i_end : ℕ) (newer_times : List ℤ) (newer_values : List ℕ) (j_end : ℕ)
     (at : Merged) (more : ℕ) (times : List ℤ) (values : List ℕ) (to : Merged) (times' : List ℤ) (values' : List ℕ) : Type 0 where
-  pub moved : Moved older_times older_values iEnd newer_times newer_values jEnd at.older at.newer at.filled times values to.older to.newer to.filled times' values'
+  pub moved : Moved older_times older_values i_end newer_times newer_values j_end at.older at.newer at.filled times values to.older to.newer to.filled times' values'
   pub count : to.filled ≡ at.filled + more
 
 -- the less of two: how many points can go
@@ -65,33 +65,33 @@ pub record Least (a b r : ℕ) : Type 0 where
   pub some : 0 < a → 0 < b → 0 < r
 
 -- the same, by one point or more where each block has a point left and the fill has room
-pub record BlocksMoved (older_times : List ℤ) (older_values : List ℕ) (iEnd : ℕ) (newer_times : List ℤ) (newer_values : List ℕ) (jEnd : ℕ)
+pub record BlocksMoved (older_times : List ℤ) (older_values : List ℕ) (i_end : ℕ) (newer_times : List ℤ) (newer_values : List ℕ) (j_end : ℕ)
     (at : Merged) (times : List ℤ) (values : List ℕ) (to : Merged) (times' : List ℤ) (values' : List ℕ) : Type 0 where
-  pub moved : Moved older_times older_values iEnd newer_times newer_values jEnd at.older at.newer at.filled times values to.older to.newer to.filled times' values'
+  pub moved : Moved older_times older_values i_end newer_times newer_values j_end at.older at.newer at.filled times values to.older to.newer to.filled times' values'
   pub most : to.filled ≤ writer_block_most
-  pub more : at.older < iEnd → at.newer < jEnd → at.filled < writer_block_most → at.filled < to.filled
+  pub more : at.older < i_end → at.newer < j_end → at.filled < writer_block_most → at.filled < to.filled
 
 -- ---- points of one block
 
 -- from place `from` and n on, `more` points of a block went into the fill
-pub record Copied (sourceTimes : List ℤ) (sourceValues : List ℕ) (from end : ℕ) (times : List ℤ) (values : List ℕ) (n more : ℕ) (times' : List ℤ) (values' : List ℕ) : Type 0 where
+pub record Copied (source_times : List ℤ) (source_values : List ℕ) (from end : ℕ) (times : List ℤ) (values : List ℕ) (n more : ℕ) (times' : List ℤ) (values' : List ℕ) : Type 0 where
   pub same : (ps : List Point)
-      → filled (n + more) times' values' ++ (cells (from + more) end sourceTimes sourceValues ++ ps)
-      ≡ filled n times values ++ (cells from end sourceTimes sourceValues ++ ps)
+      → filled (n + more) times' values' ++ (cells (from + more) end source_times source_values ++ ps)
+      ≡ filled n times values ++ (cells from end source_times source_values ++ ps)
 
 -- the same, by as many points as the block has left and the fill has room for
-pub record BlockCopied (sourceTimes : List ℤ) (sourceValues : List ℕ) (from end : ℕ) (times : List ℤ) (values : List ℕ) (n more : ℕ) (times' : List ℤ) (values' : List ℕ) : Type 0 where
-  pub copied : Copied sourceTimes sourceValues from end times values n more times' values'
+pub record BlockCopied (source_times : List ℤ) (source_values : List ℕ) (from end : ℕ) (times : List ℤ) (values : List ℕ) (n more : ℕ) (times' : List ℤ) (values' : List ℕ) : Type 0 where
+  pub copied : Copied source_times source_values from end times values n more times' values'
   pub count : Least (end - from) (writer_block_most - n) more
 
 -- ---- points of two blocks, or of one where the other side has none left at all
 
-pub record Grown (older_times : List ℤ) (older_values : List ℕ) (iEnd : ℕ) (newer_times : List ℤ) (newer_values : List ℕ) (jEnd : ℕ)
+pub record Grown (older_times : List ℤ) (older_values : List ℕ) (i_end : ℕ) (newer_times : List ℤ) (newer_values : List ℕ) (j_end : ℕ)
     (at : Merged) (times : List ℤ) (values : List ℕ) (to : Merged) (times' : List ℤ) (values' : List ℕ) : Type 0 where
-  pub older : to.older ≤ iEnd
-  pub newer : to.newer ≤ jEnd
+  pub older : to.older ≤ i_end
+  pub newer : to.newer ≤ j_end
   pub most : to.filled ≤ writer_block_most
-  pub more : at.older + at.newer < iEnd + jEnd → at.filled < writer_block_most → at.filled < to.filled
-  pub same : (ps qs : List Point) → (iEnd ≤ at.older → ps ≡ []) → (jEnd ≤ at.newer → qs ≡ [])
-      → filled to.filled times' values' ++ merged older_times older_values iEnd newer_times newer_values jEnd to.older to.newer ps qs
-      ≡ filled at.filled times values ++ merged older_times older_values iEnd newer_times newer_values jEnd at.older at.newer ps qs
+  pub more : at.older + at.newer < i_end + j_end → at.filled < writer_block_most → at.filled < to.filled
+  pub same : (ps qs : List Point) → (i_end ≤ at.older → ps ≡ []) → (j_end ≤ at.newer → qs ≡ [])
+      → filled to.filled times' values' ++ merged older_times older_values i_end newer_times newer_values j_end to.older to.newer ps qs
+      ≡ filled at.filled times values ++ merged older_times older_values i_end newer_times newer_values j_end at.older at.newer ps qs

@@ -44,27 +44,27 @@ alike least xs = both-exactly (leb-exactly least (length xs)) (all-equal xs)
 
 -- ---- the form by two tests
 
-module _ {same small : Bool} {Same Small : Type 0} (isSame : (same ≡ true) ↔ Same) (isSmall : (small ≡ true) ↔ Small) (section : List ℕ) where
+module _ {same small : Bool} {Same Small : Type 0} (is_same : (same ≡ true) ↔ Same) (is_small : (small ≡ true) ↔ Small) (section : List ℕ) where
   form-by : (same ≡ true → form_number section ≡ 2) → (same ≡ false → small ≡ true → form_number section ≡ 1)
       → (same ≡ false → small ≡ false → form_number section ≡ 0)
       → FormBy Same Small section
   form-by two one none =
       elim (choice same small) [
         | repeating s ↦ record {
-          repeated = (λ e. isSame.0 s, λ h. two s);
-          packed = (λ e. absurd (omega (arith, two s, e)), λ h. absurd (h.0 (isSame.0 s)));
-          raw = (λ e. absurd (omega (arith, two s, e)), λ h. absurd (h.0 (isSame.0 s)));
+          repeated = (λ e. is_same.0 s, λ h. two s);
+          packed = (λ e. absurd (omega (arith, two s, e)), λ h. absurd (h.0 (is_same.0 s)));
+          raw = (λ e. absurd (omega (arith, two s, e)), λ h. absurd (h.0 (is_same.0 s)));
         }
         | packing s p ↦
-            let differ : ¬ Same = λ h. never (isSame.1 h) s in
+            let differ : ¬ Same = λ h. never (is_same.1 h) s in
             record {
               repeated = (λ e. absurd (omega (arith, one s p, e)), λ h. absurd (differ h));
-              packed = (λ e. (differ, isSmall.0 p), λ h. one s p);
-              raw = (λ e. absurd (omega (arith, one s p, e)), λ h. absurd (h.1 (isSmall.0 p)));
+              packed = (λ e. (differ, is_small.0 p), λ h. one s p);
+              raw = (λ e. absurd (omega (arith, one s p, e)), λ h. absurd (h.1 (is_small.0 p)));
             }
         | plain s p ↦
-            let differ : ¬ Same = λ h. never (isSame.1 h) s in
-            let large : ¬ Small = λ h. never (isSmall.1 h) p in
+            let differ : ¬ Same = λ h. never (is_same.1 h) s in
+            let large : ¬ Small = λ h. never (is_small.1 h) p in
             record {
               repeated = (λ e. absurd (omega (arith, none s p, e)), λ h. absurd (differ h));
               packed = (λ e. absurd (omega (arith, none s p, e)), λ h. absurd (large h.1));

@@ -14,12 +14,12 @@ use Rattle.block_merge.proofs.copy.Statement.{statement}
 use Rattle.block_merge.proofs.copy.Tie as tie
 
 abbrev invariant-loop : tie.invariant-loop
-invariant-loop sourceTimes sourceValues from end times₀ values₀ n more i₀ times values i =
-    Copied sourceTimes sourceValues from end times₀ values₀ n i times values
+invariant-loop source_times source_values from end times₀ values₀ n more i₀ times values i =
+    Copied source_times source_values from end times₀ values₀ n i times values
     × (i ≤ more) × (length times ≡ length times₀) × (length values ≡ length values₀)
 
 abbrev decreases-loop : tie.decreases-loop
-decreases-loop sourceTimes sourceValues from end times₀ values₀ n more i₀ times values i = more - i
+decreases-loop source_times source_values from end times₀ values₀ n more i₀ times values i = more - i
 
 sub-least : tie.Need-overflow-sub-least invariant-loop decreases-loop
 sub-least c = omega (arith, c.before.before.requires.0.order)

@@ -13,13 +13,13 @@ use Rattle.block_merge.proofs.merge_blocks.Statement.{statement}
 use Rattle.block_merge.proofs.merge_blocks.Tie as tie
 
 abbrev invariant-loop : tie.invariant-loop
-invariant-loop older_times older_values iEnd newer_times newer_values jEnd times₀ values₀ from times values at =
-    Moved older_times older_values iEnd newer_times newer_values jEnd from.older from.newer from.filled times₀ values₀ at.older at.newer at.filled times values
+invariant-loop older_times older_values i_end newer_times newer_values j_end times₀ values₀ from times values at =
+    Moved older_times older_values i_end newer_times newer_values j_end from.older from.newer from.filled times₀ values₀ at.older at.newer at.filled times values
     × (at.filled ≤ writer_block_most) × ((from.filled < at.filled) ⊎ (at ≡ from))
     × (length times ≡ length times₀) × (length values ≡ length values₀)
 
 abbrev decreases-loop : tie.decreases-loop
-decreases-loop older_times older_values iEnd newer_times newer_values jEnd times₀ values₀ from times values at = writer_block_most - at.filled
+decreases-loop older_times older_values i_end newer_times newer_values j_end times₀ values₀ from times values at = writer_block_most - at.filled
 
 loop-holds : tie.Need-loop-init invariant-loop decreases-loop
 loop-holds c =

@@ -9,13 +9,13 @@ use Rattle.block_merge.proofs.merge_run.Statement.{statement}
 use Rattle.block_merge.proofs.merge_run.Tie as tie
 
 abbrev invariant-loop : tie.invariant-loop
-invariant-loop older_times older_values iEnd newer_times newer_values jEnd times₀ values₀ more i₀ j₀ n₀ stop times values i j n =
-    Moved older_times older_values iEnd newer_times newer_values jEnd i₀ j₀ n₀ times₀ values₀ i j n times values
-    × (n ≤ stop) × (i + (stop - n) ≤ iEnd) × (j + (stop - n) ≤ jEnd)
+invariant-loop older_times older_values i_end newer_times newer_values j_end times₀ values₀ more i₀ j₀ n₀ stop times values i j n =
+    Moved older_times older_values i_end newer_times newer_values j_end i₀ j₀ n₀ times₀ values₀ i j n times values
+    × (n ≤ stop) × (i + (stop - n) ≤ i_end) × (j + (stop - n) ≤ j_end)
     × (length times ≡ length times₀) × (length values ≡ length values₀)
 
 abbrev decreases-loop : tie.decreases-loop
-decreases-loop older_times older_values iEnd newer_times newer_values jEnd times₀ values₀ more i₀ j₀ n₀ stop times values i j n = stop - n
+decreases-loop older_times older_values i_end newer_times newer_values j_end times₀ values₀ more i₀ j₀ n₀ stop times values i j n = stop - n
 
 add-stop : tie.Need-overflow-add-stop invariant-loop decreases-loop
 add-stop c = let p = c.before.before.before.requires in omega (arith, p.2.order)
