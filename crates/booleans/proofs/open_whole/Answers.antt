@@ -1,19 +1,19 @@
 -- `open_whole` meets its contract: a byte is opened into its bits, and the bits of the bytes that are left, laid over the values as they stand, give
 -- what all of them give over the values at entry.
 use native.Mathlib.Omega.{arith}
+use borrow.Author.Rules.{rules}
 use Prim.Native.Nat.{ℕ, ◌+◌, ◌-◌, ◌*◌, ◌≤◌, ◌<◌}
 use mathlib.Core.Path.{◌≡◌, refl, ap, sym, subst, ◌∙◌}
 use mathlib.Core.List.{List, ◌++◌}
 use native.Mathlib.Nat.{sub-zero, add-zero, mul-zero}
 use lib.ListN.{length, take, drop, get_or}
-use Rattle.format.specs.Bytes.{overwrite, splice}
+use Rattle.format.specs.Bytes.{splice}
 use Rattle.format.specs.Booleans.{bits_high_first, bits_of_bytes}
 use Rattle.format.proofs.Splices.{splice-append, splice-nothing, splice_front}
 use Rattle.section_laws.proofs.Bits.{bits-length, bytes_whole}
 use Rattle.booleans.specs.Pairs.{opened_byte}
 use Rattle.booleans.proofs.OpenedBytes.{opened-bits}
-use Rattle.booleans.proofs.open_whole.Statement.{statement}
-use Rattle.booleans.proofs.open_whole.Tie as tie
+use Rattle.booleans.proofs.open_whole.Goals as goal
 
 -- a byte is laid, and then what follows it
 laid_more : (section values : List ℕ) (start i count : ℕ) → get_or section (start + i) 0 < 256 → start + count ≤ length section → i < count → 8 * count ≤ length values
@@ -30,80 +30,52 @@ laid_more section values start i count fits inside more room =
     (splice-append (8 * i) byte rest values (omega arith))
     ∙ ap (λ (bs : List ℕ). splice (8 * i) bs values) (sym (rw (left, next) at (bytes_whole section (start + i) (8 * (count - i)) (omega arith) (omega arith))))
 
-abbrev invariant-loop : tie.invariant-loop
-invariant-loop section start count values₀ pairs i₀ values i =
-    (i ≤ count)
-    × (length values ≡ length values₀)
-    × (splice (8 * i) (take (8 * (count - i)) (bits_of_bytes (drop (start + i) section))) values ≡ overwrite (take (8 * count) (bits_of_bytes (drop start section))) values₀)
-
-abbrev decreases-loop : tie.decreases-loop
-decreases-loop section start count values₀ pairs i₀ values i = count - i
-
-returns : tie.Need-returns invariant-loop decreases-loop
-returns c =
-    let none : 8 * c.before.before.before.args.count ≡ 0 = omega (arith, c.if1.true) in
+pub returns-then-count-eq0 : goal.returns-then-count-eq0
+returns-then-count-eq0 c =
+    let none : 8 * c.args.count ≡ 0 = omega (arith, c.if-count-eq0.true) in
     rw none
 
-loop-holds : tie.Need-loop-init invariant-loop decreases-loop
-loop-holds c =
-    let a = c.before.before.before.args in
+pub loop-i-init : goal.loop-i-init
+loop-i-init c =
+    let a = c.args in
     (omega arith, refl, rw (mul-zero, add-zero, sub-zero) (splice_front (take (8 * a.count) (bits_of_bytes (drop a.start a.section.now))) a.values.now))
 
-add-open-byte : tie.Need-overflow-add-open-byte invariant-loop decreases-loop
-add-open-byte c = omega arith
+pub overflow_add-start : goal.overflow_add-start
+overflow_add-start c = omega arith
 
-shared-slice-read-open-byte : tie.Need-shared-slice-read-open-byte invariant-loop decreases-loop
-shared-slice-read-open-byte c = omega arith
+pub bounds-section-start : goal.bounds-section-start
+bounds-section-start c = omega arith
 
-mul-open-byte : tie.Need-overflow-mul-open-byte invariant-loop decreases-loop
-mul-open-byte c = omega arith
+pub overflow_mul-i : goal.overflow_mul-i
+overflow_mul-i c = omega arith
 
-open-byte-requires : tie.Need-open-byte-requires invariant-loop decreases-loop
-open-byte-requires c κs = (refl, omega arith)
+pub open_byte-requires : goal.open_byte-requires
+open_byte-requires c = (refl, omega arith)
 
-add-i : tie.Need-overflow-add-i invariant-loop decreases-loop
-add-i c = omega arith
+pub overflow_add-i : goal.overflow_add-i
+overflow_add-i c = omega arith
 
-loop-less : tie.Need-loop-smaller invariant-loop decreases-loop
-loop-less c = omega arith
+pub loop-i-smaller : goal.loop-i-smaller
+loop-i-smaller c = omega arith
 
-loop-again : tie.Need-loop-preserved invariant-loop decreases-loop
-loop-again c =
-    let a = c.before.before.before.before.before.before.before.before.before.before.before.args in
-    let l = c.before.before.before.before.before.before.before.loop in
-    let bytes = c.before.before.before.before.before.before.before.before.before.before.shared-slice-known.given in
-    let call = c.before.before.open-byte in (
+pub loop-i-preserved : goal.loop-i-preserved
+loop-i-preserved c =
+    let a = c.args in
+    let l = c.loop-i in
+    let call = c.open_byte in (
       omega arith,
-      call.auto.1.1.0 ∙ l.invariant.1,
+      call.auto.values ∙ l.invariant.1,
       ap (λ (vs : List ℕ). splice (8 * (l.i + 1)) (take (8 * (a.count - (l.i + 1))) (bits_of_bytes (drop (a.start + (l.i + 1)) a.section.now))) vs) call.ensures
-          ∙ laid_more a.section.now l.values a.start l.i a.count (bytes (a.start + l.i)).fits (omega arith) (omega arith) (omega arith)
+          ∙ laid_more a.section.now l.values a.start l.i a.count (search rules) (omega arith) (omega arith) (omega arith)
           ∙ l.invariant.2,
     )
 
-same_length : tie.Need-same-length invariant-loop decreases-loop
-same_length c = c.before.loop.invariant.1
+pub shape_of-values : goal.shape_of-values
+shape_of-values c = c.loop-i.invariant.1
 
-returns-2 : tie.Need-returns-2 invariant-loop decreases-loop
-returns-2 c =
-    let l = c.before.loop in
-    let a = c.before.before.before.before.before.args in
+pub returns : goal.returns
+returns c =
+    let l = c.loop-i in
+    let a = c.args in
     let none : a.count - l.i ≡ 0 = omega arith in
     sym (splice-nothing (8 * l.i) l.values) ∙ (rw none at l.invariant.2)
-
-pub open-whole-spec : {M : Type 1} → statement M
-open-whole-spec =
-    tie.close
-    (tie.spec
-    invariant-loop
-    decreases-loop
-    returns
-    loop-holds
-    add-open-byte
-    shared-slice-read-open-byte
-    mul-open-byte
-    open-byte-requires
-    add-i
-    loop-less
-    loop-again
-    same_length
-    returns-2)
