@@ -1,5 +1,4 @@
 -- `index::block_fits` meets its contract: where the block stands at the last end, it is within the start exactly when its size is within what is left.
-use borrow.Author.Rules.{rules}
 use mathlib.Core.Path.{◌≡◌}
 use native.Mathlib.Omega.{arith}
 use Rattle.index.proofs.Entries.{within}

@@ -1,5 +1,4 @@
 -- `index::block_part` meets its contract: from the offset, as many bytes as the size says.
-use borrow.Author.Rules.{rules}
 use Rattle.format.proofs.Lists.{part-lent}
 use Rattle.index.proofs.block_part.Goals as goal
 

@@ -1,6 +1,4 @@
 -- `index::check_frame` meets its contract: each refusal is given after its own test, in the order of `check_frame`.
-use borrow.Author.Rules.{rules}
-use borrow.Author.Tests.{not-true, not-false}
 use mathlib.Core.Path.{◌≡◌, ap, sym, ◌∙◌}
 use native.Mathlib.Omega.{arith}
 use lib.Seq.{length-take-le}
@@ -29,7 +27,7 @@ returns-then-not-same_bytes c =
     let read = c.same_bytes in
     let least = c.if-len-lt-IMAGE_LEAST.false in
     let most = c.if-len-gt-IMAGE_MOST.false in
-    let other = sym read.ensures ∙ not-true read.result c.if-not-same_bytes.true-raw in
+    let other = sym read.ensures ∙ c.if-not-same_bytes.true in
     sym (ap (frame_of (index_start image)) (frame-magic image least most other))
 
 pub returns-then-image-ne-VERSION : goal.returns-then-image-ne-VERSION
@@ -39,7 +37,7 @@ returns-then-image-ne-VERSION c =
     let read = c.same_bytes in
     let least = c.if-len-lt-IMAGE_LEAST.false in
     let most = c.if-len-gt-IMAGE_MOST.false in
-    let right = sym read.ensures ∙ not-false read.result c.if-not-same_bytes.false-raw in
+    let right = sym read.ensures ∙ c.if-not-same_bytes.false in
     sym (ap (frame_of (index_start image)) (frame-version image least most right c.if-image-ne-VERSION.true))
 
 pub returns-then-start-lt-HEADER_SIZE : goal.returns-then-start-lt-HEADER_SIZE
@@ -49,7 +47,7 @@ returns-then-start-lt-HEADER_SIZE c =
     let read = c.same_bytes in
     let least = c.if-len-lt-IMAGE_LEAST.false in
     let most = c.if-len-gt-IMAGE_MOST.false in
-    let right = sym read.ensures ∙ not-false read.result c.if-not-same_bytes.false-raw in
+    let right = sym read.ensures ∙ c.if-not-same_bytes.false in
     let start : c.read_u64-start.result ≡ index_start image = c.read_u64-start.ensures ∙ start_is image (omega arith) in
     sym (ap (frame_of (index_start image)) (frame-early image least most right c.if-image-ne-VERSION.false (omega (arith, start))))
 
@@ -60,7 +58,7 @@ returns-then-footer-start c =
     let read = c.same_bytes in
     let least = c.if-len-lt-IMAGE_LEAST.false in
     let most = c.if-len-gt-IMAGE_MOST.false in
-    let right = sym read.ensures ∙ not-false read.result c.if-not-same_bytes.false-raw in
+    let right = sym read.ensures ∙ c.if-not-same_bytes.false in
     let start : c.read_u64-start.result ≡ index_start image = c.read_u64-start.ensures ∙ start_is image (omega arith) in
     sym (ap (frame_of (index_start image)) (frame-late image least most right c.if-image-ne-VERSION.false (omega (arith, start)) (omega (arith, start))))
 
@@ -71,6 +69,6 @@ returns c =
     let read = c.same_bytes in
     let least = c.if-len-lt-IMAGE_LEAST.false in
     let most = c.if-len-gt-IMAGE_MOST.false in
-    let right = sym read.ensures ∙ not-false read.result c.if-not-same_bytes.false-raw in
+    let right = sym read.ensures ∙ c.if-not-same_bytes.false in
     let start : c.read_u64-start.result ≡ index_start image = c.read_u64-start.ensures ∙ start_is image (omega arith) in
     rw (frame-good image least most right c.if-image-ne-VERSION.false (omega (arith, start)) (omega (arith, start)), start)

@@ -1,6 +1,5 @@
 -- `index::frame_refusal` meets its contract: its arms are those of `frame_refusal`.
 use mathlib.Core.Path.{ap, sym}
-use borrow.Author.Rules.{rules}
 use Rattle.index.specs.Frames.{frame_refusal}
 use Rattle.index.proofs.frame_refusal.Goals as goal
 

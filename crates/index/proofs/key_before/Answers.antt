@@ -2,7 +2,6 @@
 use mathlib.Core.Path.{ap₂, ◌∙◌}
 use Rattle.format.specs.KeyOrder.{key_before}
 use Rattle.format.proofs.Lists.{part-lent}
-use borrow.Author.Rules.{rules}
 use Rattle.index.proofs.key_before.Goals as goal
 
 pub returns : goal.returns

@@ -4,7 +4,6 @@ use mathlib.Core.List.{List}
 use Prim.Native.Nat.{ℕ}
 use Rattle.format.specs.Choice.{same_list}
 use Rattle.format.proofs.Lists.{part-lent}
-use borrow.Author.Rules.{rules}
 use Rattle.index.proofs.same_key.Goals as goal
 
 pub returns : goal.returns

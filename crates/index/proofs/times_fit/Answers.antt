@@ -1,5 +1,4 @@
 -- `index::times_fit` meets its contract: the machine compares the numbers that the bits state.
-use borrow.Author.Rules.{rules}
 use mathlib.Core.Path.{◌≡◌, ap₂, sym, ◌∙◌}
 use mathlib.Core.Bool.{Bool, true, false}
 use lib.IntN.{ℤ}
