@@ -1,6 +1,5 @@
 -- `timestamps::advance` meets its contract: a difference less 1, wrapped, is below `most` where it is 1 to `most`; a product
 -- that does not fit 64 bits lies past every distance.
-use borrow.Author.Rules.{rules}
 use mathlib.Core.Path.{◌≡◌, refl}
 use mathlib.Core.Logic.{◌⊎◌, inl, inr}
 use Prim.Native.Nat.{ℕ, ◌*◌, ◌/◌, ◌^◌, ◌-◌, ◌≤◌, ◌<◌}
@@ -9,8 +8,7 @@ use native.Mathlib.Decide.{dec_lt}
 use native.Mathlib.Omega.{arith}
 use Rattle.format.specs.Signed.{wrap_sub}
 use Rattle.timestamps.proofs.Adding.{scale-least, scale-most, scale-past}
-use Rattle.timestamps.proofs.advance.Statement.{statement}
-use Rattle.timestamps.proofs.advance.Tie as tie
+use Rattle.timestamps.proofs.advance.Goals as goal
 
 module _ (d most : ℕ) (hd : d < 2 ^ 64) (hm : most < 2 ^ 64) where
   within : wrap_sub d 1 < most → (1 ≤ d) × (d ≤ most)
@@ -27,36 +25,23 @@ module _ (d scale most left : ℕ) (hs : 1 ≤ scale) (e : most ≡ (2 ^ 64 - 1)
         | no k ↦ let z : d ≡ 0 = omega arith in inl (rw z (zero-mul scale))
       ]
 
-wrap-sub-requires : tie.Need-wrap-sub-requires
-wrap-sub-requires c κs = search rules
-
-returns : tie.Need-returns
-returns c =
-    let s = c.before.before in
+pub returns-then-most-wrap_sub : goal.returns-then-most-wrap_sub
+returns-then-most-wrap_sub c =
+    let s = c in
     passes s.args.difference s.args.scale s.args.most s.args.left s.requires.0 s.requires.1 s.ranges.difference.fits s.ranges.most.fits s.ranges.left.fits
-    (rw c.before.wrap-sub.ensures at c.if1.true)
+    (rw c.wrap_sub.ensures at c.if-most-wrap_sub.true)
 
-mul-distance : tie.Need-overflow-mul-distance
-mul-distance c =
-    let s = c.before.before in
-    let h = within s.args.difference s.args.most s.ranges.difference.fits s.ranges.most.fits (rw c.before.wrap-sub.ensures at c.if1.false) in
+pub overflow_mul-distance : goal.overflow_mul-distance
+overflow_mul-distance c =
+    let s = c in
+    let h = within s.args.difference s.args.most s.ranges.difference.fits s.ranges.most.fits (rw c.wrap_sub.ensures at c.if-most-wrap_sub.false) in
     record { fits = scale-most s.args.scale s.args.difference s.requires.0 (rw s.requires.1 at h.1) }
 
-returns-2 : tie.Need-returns-2
-returns-2 c = inr c.if2.true
+pub returns-then-left-distance : goal.returns-then-left-distance
+returns-then-left-distance c = inr c.if-left-distance.true
 
-returns-3 : tie.Need-returns-3
-returns-3 c =
-    let s = c.before.before.before in
-    let h = within s.args.difference s.args.most s.ranges.difference.fits s.ranges.most.fits (rw c.before.before.wrap-sub.ensures at c.before.if1.false) in
-    (scale-least s.args.scale s.args.difference s.requires.0 (λ z. omega (arith, h.0)), c.if2.false, refl)
-
-pub advance-spec : {M : Type 1} → statement M
-advance-spec =
-    tie.close
-    (tie.spec
-    wrap-sub-requires
-    returns
-    mul-distance
-    returns-2
-    returns-3)
+pub returns : goal.returns
+returns c =
+    let s = c in
+    let h = within s.args.difference s.args.most s.ranges.difference.fits s.ranges.most.fits (rw c.wrap_sub.ensures at c.if-most-wrap_sub.false) in
+    (scale-least s.args.scale s.args.difference s.requires.0 (λ z. omega (arith, h.0)), c.if-left-distance.false, refl)

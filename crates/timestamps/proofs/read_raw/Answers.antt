@@ -1,0 +1,32 @@
+-- `timestamps::read_raw` meets its contract: its tests are those of the form, and the words are laid in the first cells.
+use native.Mathlib.Omega.{arith}
+use Prim.Native.Nat.{ℕ, ◌-◌, ◌/◌}
+use mathlib.Core.Path.{ap}
+use lib.ListN.{length, drop, length-drop}
+use Rattle.timestamps.proofs.Forms.{broken-raw, part-raw, many-raw, found-raw}
+use Rattle.timestamps.proofs.read_raw.Goals as goal
+
+pub returns-then-e-ne0 : goal.returns-then-e-ne0
+returns-then-e-ne0 c t = let a = c.args in broken-raw a.e (drop 9 a.section.now) t c.if-e-ne0.true
+
+pub returns-then-bytes-ne0 : goal.returns-then-bytes-ne0
+returns-then-bytes-ne0 c t =
+    let a = c.args in
+    part-raw a.e (drop 9 a.section.now) t c.if-e-ne0.false (λ z. c.if-bytes-ne0.true (omega (arith, z, length-drop 9 a.section.now)))
+
+pub returns-then-count-gt-MOST : goal.returns-then-count-gt-MOST
+returns-then-count-gt-MOST c t =
+    let a = c.args in
+    let l = length-drop 9 a.section.now in
+    many-raw a.e (drop 9 a.section.now) c.if-e-ne0.false (omega (arith, l, c.if-bytes-ne0.false)) t (omega (arith, l, c.if-count-gt-MOST.true))
+
+pub read_words-requires : goal.read_words-requires
+read_words-requires c = (omega arith, omega (arith, c.if-count-gt-MOST.false, c.requires))
+
+pub returns : goal.returns
+returns c =
+    let a = c.args in
+    let l = length-drop 9 a.section.now in
+    let found = found-raw a.e (drop 9 a.section.now) c.if-e-ne0.false (omega (arith, l, c.if-bytes-ne0.false)) a.differences.now c.read_words.new.cells ((length a.section.now - 9) / 8) (ap (λ (k : ℕ). k / 8) l)
+    c.read_words.ensures in
+    (found.0, omega (arith, c.if-count-gt-MOST.false), found.1)
