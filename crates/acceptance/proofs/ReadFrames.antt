@@ -13,7 +13,6 @@ use Rattle.format.specs.File.{magic, version, footer_place, index_start, index_b
 use Rattle.format.proofs.AllBelow.{below-drop}
 use Rattle.numbers.proofs.BigEndian.{big_bytes-big_endian}
 use Rattle.format.proofs.Readings.{FrameParts}
-use Rattle.acceptance.specs.Files as laid
 
 module _ (image : List ℕ) (all : AllBytes image) (f : FrameParts image) where
   abbrev x : ℕ
