@@ -16,31 +16,37 @@ use Rattle.finder.proofs.search_key.Tie as tie
 walk-requires : tie.Need-walk-requires
 walk-requires c κs = (c.before.requires.1, c.before.requires.2)
 
-enum_told : tie.Need-enum-told
+enum_told : tie.Need-enum_told-1
 enum_told c = search rules
 
 covering-requires : tie.Need-covering-requires
-covering-requires c κs = c.before.before.before.before.requires.0.entries
+covering-requires c κs = c.before.before.before.requires.0.entries
 
-enum-known-refusal : tie.Need-enum-known-refusal
+enum-known-refusal : tie.Need-enum_known-refusal
 enum-known-refusal c = search rules
 
-returns : tie.Need-returns
+returns : tie.Need-returns-in-IndexAt
 returns c =
-    let p = c.before.before.before.before.before in
-    let good = read-good p.args.start.0 (rest p.args.index.now p.args.start.0 p.args.past) c.before.enum_told.given.0.0 (sym c.before.before.before.walk.ensures ∙ c.before.enum_told.given.1) in
+    let p = c.before.before.before.before in
+    let good = read-good p.args.start.0 (rest p.args.index.now p.args.start.0 p.args.past) c.before.enum_told-1.given.0.0 (sym c.before.before.before.walk.ensures ∙ c.before.enum_told-1.given.1) in
     c.covering.ensures
     ∙ ap (λ (z : ℤ). answer_of (covering_entry z (entries_at p.args.index.now p.args.met))) (to_z-of_z w64 p.args.time p.ranges.time)
     ∙ sym (ap (λ (r : Remaining). answer_of (cover_from p.args.time (entries_at p.args.index.now p.args.met) r)) good.1)
 
-returns-2 : tie.Need-returns-2
+returns-2 : tie.Need-returns-in-Refused
 returns-2 c =
-    let p = c.before.before.before.before.before in
-    let r = c.before.refusal.given in
+    let p = c.before.before.before in
+    let r = c.before.refusal-1.given in
     let why = read-refused p.args.start.0 (rest p.args.index.now p.args.start.0 p.args.past) r.0.0 r.0.1.0 (sym c.before.before.before.walk.ensures ∙ r.1) in
     sym (ap (λ (r : Remaining). answer_of (cover_from p.args.time (entries_at p.args.index.now p.args.met) r)) why)
 
-pub search-key-spec : {M : Type 1} → statement M
-search-key-spec =
+pub search_key_spec : {M : Type 1} → statement M
+search_key_spec =
     tie.close
-    (tie.spec walk-requires enum_told covering-requires enum-known-refusal returns returns-2)
+    (tie.spec
+    walk-requires
+    enum_told
+    covering-requires
+    enum-known-refusal
+    returns
+    returns-2)
