@@ -1,8 +1,6 @@
 -- `keys::alike` meets its contract: eight bytes that state one number are the same.
-use Prim.Native.Nat.{◌-◌}
 use mathlib.Core.Path.{sym, ◌∙◌}
 use native.Mathlib.Omega.{arith}
-use Rattle.keys.specs.Prefixes.{BeginAlike}
 use Rattle.keys.proofs.Prefixes.{alike-start, alike-more}
 use Rattle.keys.proofs.alike.Goals as goal
 

@@ -1,10 +1,7 @@
 -- `keys::same_bytes` meets its contract: the bytes passed are equal, so the bytes from here on decide.
-use borrow.Author.Rules.{rules}
-use Prim.Native.Nat.{◌-◌, ◌≤◌}
 use mathlib.Core.Path.{◌≡◌, sym, ◌∙◌}
 use native.Mathlib.Omega.{arith}
-use lib.ListN.{length, drop}
-use Rattle.format.specs.Choice.{same_list}
+use lib.ListN.{length}
 use Rattle.keys.proofs.Prefixes.{same_rest}
 use Rattle.keys.proofs.Sames.{same-lengths, same_end, same-differ, same-on}
 use Rattle.keys.proofs.same_bytes.Goals as goal

@@ -1,12 +1,8 @@
 -- `keys::same_bytes` meets its contract: the bytes passed are equal, so the bytes from here on decide.
-use borrow.Author.Rules.{rules}
 use Prim.Native.Nat.{◌-◌, ◌≤◌}
-use mathlib.Core.Path.{◌≡◌, sym, ◌∙◌}
-use native.Mathlib.Omega.{arith}
+use mathlib.Core.Path.{◌≡◌}
 use lib.ListN.{length, drop}
 use Rattle.format.specs.Choice.{same_list}
-use Rattle.keys.proofs.Prefixes.{same_rest}
-use Rattle.keys.proofs.Sames.{same-lengths, same_end, same-differ, same-on}
 use Rattle.keys.proofs.same_bytes.Given as goal
 
 abbrev pub invariant-loop-i : goal.invariant-loop-i

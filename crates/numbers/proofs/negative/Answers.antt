@@ -1,5 +1,5 @@
 -- `numbers::negative` meets its contract: −1 − m is the negative number of magnitude m.
-use Rattle.std.proofs.Common.{w64, rules}
+use Rattle.std.proofs.Common.{w64}
 use mir.ValLaws.{to_z_pos, to_z-neg}
 use Rattle.numbers.proofs.TwosComplement.{minus-one-pos}
 use Rattle.numbers.proofs.negative.Goals as goal

@@ -1,5 +1,5 @@
 -- `numbers::pattern` meets its contract: the pattern of a negative number is the complement of its magnitude.
-use Rattle.std.proofs.Common.{◌∙◌, arith, w64, rules}
+use Rattle.std.proofs.Common.{◌∙◌, arith, w64}
 use mir.ValLaws.{to_z-of_z}
 use Rattle.numbers.proofs.pattern.Goals as goal
 

@@ -1,5 +1,5 @@
 -- `numbers::power_of_ten` meets its contract: the table's rule is one computed test.
-use Rattle.std.proofs.Common.{◌≡◌, ℕ, zero, suc, ◌+◌, ◌^◌, Bool, true, ◌&&◌, eqb, ltb, List, [], ◌∷◌, length, get_or, refl, arith, rules, ltb-true, lt-ltb, eqb-true}
+use Rattle.std.proofs.Common.{◌≡◌, ℕ, zero, suc, ◌+◌, ◌^◌, Bool, true, ◌&&◌, eqb, ltb, List, [], ◌∷◌, length, get_or, refl, arith, ltb-true, lt-ltb, eqb-true}
 use Rattle.format.proofs.Tests.{both_left, both_right}
 use Rattle.numbers.proofs.power_of_ten.Goals as goal
 

@@ -1,5 +1,5 @@
 -- `numbers::put_u16` meets its contract: two stores, one after the other, lay the two bytes.
-use Rattle.std.proofs.Common.{◌+◌, ◌/◌, ◌%◌, [], ◌∷◌, set, arith, length-set, rules}
+use Rattle.std.proofs.Common.{◌+◌, ◌/◌, ◌%◌, [], ◌∷◌, set, arith, length-set}
 use Rattle.numbers.proofs.BigEndian.{big_bytes-two}
 use Rattle.format.proofs.Splices.{splice-set, splice-store}
 use Rattle.numbers.proofs.put_u16.Goals as goal

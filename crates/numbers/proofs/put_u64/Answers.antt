@@ -1,5 +1,5 @@
 -- `numbers::put_u64` meets its contract: the bytes of the high part and then those of the low part are laid as one.
-use Rattle.std.proofs.Common.{arith, rules}
+use Rattle.std.proofs.Common.{arith}
 use Rattle.numbers.proofs.BigEndian.{splice-big_bytes}
 use Rattle.numbers.proofs.put_u64.Goals as goal
 

@@ -1,5 +1,5 @@
 -- `numbers::put_varint` meets its contract: what is left, laid from the next place on, makes what the whole varint makes from the start.
-use Rattle.std.proofs.Common.{◌≡◌, ℕ, ◌+◌, ◌/◌, ◌%◌, ◌^◌, ◌<◌, ◌≤◌, List, [], ◌∷◌, length, set, sym, refl, ap, ◌∙◌, arith, length-set}
+use Rattle.std.proofs.Common.{◌≡◌, ℕ, ◌+◌, ◌/◌, ◌%◌, ◌<◌, ◌≤◌, List, [], ◌∷◌, length, set, sym, refl, ap, ◌∙◌, arith, length-set}
 use Rattle.format.specs.Varint.{varint}
 use Rattle.format.specs.Bytes.{splice}
 use Rattle.format.proofs.Splices.{splice-set, splice-store}

@@ -1,9 +1,7 @@
 -- `numbers::put_varint` meets its contract: what is left, laid from the next place on, makes what the whole varint makes from the start.
-use Rattle.std.proofs.Common.{◌≡◌, ℕ, ◌+◌, ◌/◌, ◌%◌, ◌^◌, ◌<◌, ◌≤◌, List, [], ◌∷◌, length, set, sym, refl, ap, ◌∙◌, arith, length-set}
+use Rattle.std.proofs.Common.{◌≡◌, ◌+◌, ◌^◌, ◌<◌, length}
 use Rattle.format.specs.Varint.{varint}
 use Rattle.format.specs.Bytes.{splice}
-use Rattle.format.proofs.Splices.{splice-set, splice-store}
-use Rattle.numbers.proofs.Varints.{varint-last, varint-two, varint-last-two, varint-length-least}
 use Rattle.numbers.proofs.put_varint.Given as goal
 
 abbrev pub invariant-loop-left : goal.invariant-loop-left

@@ -1,5 +1,5 @@
 -- `numbers::read_u16` meets its contract: the number of two bytes is 256 times the first and the second.
-use Rattle.std.proofs.Common.{◌+◌, arith, rules}
+use Rattle.std.proofs.Common.{◌+◌, arith}
 use Rattle.numbers.proofs.BigEndian.{big_endian-part, big_endian-one}
 use Rattle.numbers.proofs.read_u16.Goals as goal
 

@@ -1,5 +1,5 @@
 -- `numbers::read_u64` meets its contract: two bytes more are 65,536 times what was read and the number of those two.
-use Rattle.std.proofs.Common.{arith, rules}
+use Rattle.std.proofs.Common.{arith}
 use Rattle.numbers.proofs.BigEndian.{big_endian-part}
 use Rattle.numbers.proofs.read_u64.Goals as goal
 

@@ -1,5 +1,5 @@
 -- `numbers::read_varint` meets its contract: the first byte ends the number, or the state of reading goes on (`Scans`).
-use Rattle.std.proofs.Common.{◌≡◌, ◌+◌, ◌-◌, ◌*◌, ◌≤◌, get_or, arith, rules}
+use Rattle.std.proofs.Common.{◌≡◌, ◌+◌, ◌-◌, ◌*◌, ◌≤◌, get_or, arith}
 use Rattle.numbers.proofs.Scans.{kept-middle, scan-start, scan-first, scan-more, scan-end}
 use Rattle.numbers.proofs.read_varint.Goals as goal
 

@@ -1,8 +1,6 @@
 -- `numbers::read_words` meets its contract: the numbers that are left, laid from i on, make what all of them make from the start.
-use Rattle.std.proofs.Common.{◌≡◌, ℕ, ◌+◌, ◌-◌, ◌*◌, ◌≤◌, List, ◌∷◌, length, drop, sym, refl, ap, ◌∙◌, arith, length-set, rules}
+use Rattle.std.proofs.Common.{◌≡◌, ◌+◌, ◌-◌, ◌*◌, ◌≤◌, length, drop}
 use Rattle.format.specs.Bytes.{words_of, overwrite, splice}
-use Rattle.format.proofs.Splices.{splice-nothing, splice_front, splice-store}
-use Rattle.numbers.proofs.Cells.{words-next}
 use Rattle.numbers.proofs.read_words.Given as goal
 
 abbrev pub invariant-loop-i : goal.invariant-loop-i

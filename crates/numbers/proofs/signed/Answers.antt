@@ -1,5 +1,5 @@
 -- `numbers::signed` meets its contract: from 2^63 on, a pattern states the negative number of its complement.
-use Rattle.std.proofs.Common.{◌-◌, ◌^◌, negsuc, ap, arith, w64, rules, le-ltb}
+use Rattle.std.proofs.Common.{◌-◌, ◌^◌, negsuc, ap, arith, w64, le-ltb}
 use mir.ValLaws.{to_z-neg}
 use Rattle.numbers.proofs.signed.Goals as goal
 

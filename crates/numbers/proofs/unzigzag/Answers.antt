@@ -1,5 +1,5 @@
 -- `numbers::unzigzag` meets its contract: by the lowest bit.
-use Rattle.std.proofs.Common.{◌/◌, ◌%◌, arith, w64, rules, eq-eqb, ne_eqb}
+use Rattle.std.proofs.Common.{◌/◌, ◌%◌, arith, w64, eq-eqb, ne_eqb}
 use mir.ValLaws.{to_z_pos, to_z-neg}
 use Rattle.numbers.proofs.unzigzag.Goals as goal
 

@@ -1,5 +1,5 @@
 -- `numbers::varint_len` meets its contract: a number below 128 takes one byte, and any other one byte for each seven bits.
-use Rattle.std.proofs.Common.{length, sym, ap, arith, rules}
+use Rattle.std.proofs.Common.{length, sym, ap, arith}
 use lib.Count.{leading_le, leading_top}
 use Rattle.numbers.proofs.Varints.{varint-last, varint-bits}
 use Rattle.numbers.proofs.varint_len.Goals as goal

@@ -1,5 +1,5 @@
 -- `numbers::zigzag` meets its contract: by the sign, and a magnitude is below 2^63, so that its zigzag fits.
-use Rattle.std.proofs.Common.{◌≡◌, pos, negsuc, ap, ◌∙◌, arith, w64, rules}
+use Rattle.std.proofs.Common.{◌≡◌, pos, negsuc, ap, ◌∙◌, arith, w64}
 use mir.ValLaws.{to_z-of_z}
 use lib.Signed.{mag}
 use Rattle.numbers.proofs.zigzag.Goals as goal
