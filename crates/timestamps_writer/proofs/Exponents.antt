@@ -2,7 +2,6 @@
 --   pass-start, pass-more, pass-stop, pass-end   differences that a scale divides
 --   find-nothing, find_first   there is no difference, or ten does not divide the first
 --   Finding, find-start, find-less, find-end, find_none   the state of the search
---   twelve   the exponent that no arm but the last names
 use mathlib.Core.Path.{◌≡◌, refl, sym, ap, ◌∙◌}
 use mathlib.Core.Bool.{true}
 use mathlib.Core.List.{List, [], ◌∷◌}
@@ -96,17 +95,3 @@ module _ {ds : List ℕ} {count e i : ℕ} (s : Finding ds count e i) where
           passed = divides-less e (e - 1) (take r ds) (omega arith) (p.run s.passed);
           upper = less h;
         }
-
--- ---- the last arm of a choice by the exponent
-
--- e is none of 1 to k
-abbrev pub Misses : (k e : ℕ) → Type 0
-Misses zero e = Unit {0}
-Misses (suc k) e = Misses k e × (e ≡ suc k → ⊥)
-
-above : (k e : ℕ) → 1 ≤ e → Misses k e → k < e
-above zero e h m = h
-above (suc k) e h m = omega (arith, above k e h m.0, m.1)
-
-pub twelve : (e : ℕ) → 1 ≤ e → e ≤ 12 → Misses 11 e → e ≡ 12
-twelve e h k m = omega (arith, above 11 e h m)
