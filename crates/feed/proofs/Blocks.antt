@@ -1,5 +1,4 @@
 -- The next block of the open key: the step of the cursor takes its entry, and the block is decoded.
---   entry-tag      a step that takes an entry is no other
 --   no_block       with no entry left, no point is left
 --   block-step     with one left, the step takes it
 --   block-known    the block can be decoded
@@ -8,12 +7,9 @@
 --   block-opened   the feed at the decoded block
 use Prim.Native.Nat.{ℕ, ◌≤◌, zero-le}
 use mathlib.Core.Path.{◌≡◌, refl, ap, sym, subst, ◌∙◌}
-use mathlib.Core.Logic.{⊎_elim}
 use mathlib.Core.Bool.{true}
 use mathlib.Core.List.{List, [], ◌∷◌}
 use native.Mathlib.Omega.{arith}
-use denote.Enum.Declared.{tag_of}
-use types.Run.{OneOf}
 use lib.IntN.{ℤ}
 use lib.ListN.{length}
 use Rattle.format.specs.declared.Entry.{Entry}
@@ -25,7 +21,6 @@ use Rattle.format.specs.File.{block_of, read_blocks}
 use Rattle.index.specs.declared.Cursor.{Cursor}
 use Rattle.index.specs.declared.Step.{Step}
 use Rattle.index.specs.Cursors.{key_at, step_at, entry_at, past, rest}
-use Rattle.index.specs.contracts.Step.{the_type}
 use Rattle.index.proofs.Steps.{on-entry, good-entry}
 use Rattle.index.proofs.Taken.{none_left, good-take, entry_past}
 use Rattle.block.proofs.Answers.{PointsAre}
@@ -37,12 +32,6 @@ use Rattle.index.proofs.Frames.{in_image}
 use Rattle.feed.specs.Feeds.{key_of, entries_left, keys_left, blocks_left, series_left, Stands, Kept, BlockOpened}
 use Rattle.feed.proofs.Readings.{BlocksRead, blocks-read, no_blocks}
 use Rattle.feed.proofs.Standing.{Left, placed, starts}
-
--- a step that takes an entry is no other
-pub entry-tag : (s : Step) (e : Entry) (d : Cursor) → s ≡ Step.Entry e d → OneOf (0 ∷ 2 ∷ 3 ∷ []) (tag_of the_type s) → ⊥
-entry-tag s e d same k =
-    let at : OneOf (0 ∷ 2 ∷ 3 ∷ []) (tag_of the_type (Step.Entry e d)) = subst (λ (r : Step). OneOf (0 ∷ 2 ∷ 3 ∷ []) (tag_of the_type r)) same k in
-    ⊎_elim (λ z. omega arith) (λ r. ⊎_elim (λ z. omega arith) (λ z. omega arith) r) at
 
 module _ (image : List ℕ) (f : Feed) (s : Stands image f) where
   abbrev index : List ℕ
