@@ -1,0 +1,47 @@
+-- `len` meets its contract: checksum and kind, the length of the timestamps, and the two sections.
+use mathlib.Core.Path.{◌≡◌, ap, sym, ◌∙◌}
+use Prim.Native.Nat.{ℕ, ◌+◌, ◌≤◌}
+use lib.ListN.{length}
+use Rattle.format.specs.Varint.{varint}
+use Rattle.format.specs.Block.{block_bytes, filled}
+use Rattle.block_writer.proofs.Parts.{filled-length, filled-most}
+use native.Mathlib.Omega.{arith}
+use Rattle.block_writer.proofs.len.Goals as goal
+
+-- the parts and the whole
+record Sized (c : goal.After-varint_len) : Type 0 where
+  whole : let start = c in let a = start.args in
+      length (block_bytes a.kind (filled a.n a.times.now a.values.now))
+      ≡ 5 + c.varint_len.result + c.len-times_len.result + c.values_len-values_len.result
+  most : c.varint_len.result + c.len-times_len.result + c.values_len-values_len.result ≤ 20_000
+
+sized : (c : goal.After-varint_len) → Sized c
+sized c =
+    let start = c in
+    let a = start.args in
+    let e = c.len-times_len.ensures in
+    let f = c.values_len-values_len.ensures in
+    let g = c.varint_len.ensures ∙ ap (λ (n : ℕ). length (varint n)) e in
+    let whole = filled-length a.kind a.n a.times.now a.values.now start.requires in
+    record {
+      whole = omega (arith, whole, e, f, g);
+      most = omega (arith, whole, e, f, g, filled-most a.kind a.n a.times.now a.values.now start.requires);
+    }
+
+pub len-times_len-requires : goal.len-times_len-requires
+len-times_len-requires c = let fits = c.requires.times-fit in (fits.count.0, fits.count.1, fits.inside, fits.ascend)
+
+pub values_len-values_len-requires : goal.values_len-values_len-requires
+values_len-values_len-requires c = c.requires.values-fit
+
+pub overflow_add-result : goal.overflow_add-result
+overflow_add-result c = omega (arith, (sized c).most)
+
+pub overflow_add-result-2 : goal.overflow_add-result-2
+overflow_add-result-2 c = omega (arith, (sized c).most)
+
+pub overflow_add-result-3 : goal.overflow_add-result-3
+overflow_add-result-3 c = omega (arith, (sized c).most)
+
+pub returns : goal.returns
+returns c = sym (sized c).whole
