@@ -2,8 +2,7 @@
 --   read_number   what a reading answers, as a number
 --   row_number    0 where the section is read, 1 where it is refused, 2 where the lent slice is too short
 --   row_values    the lent slice afterwards
-use Rattle.std.specs.Prelude.{ℕ, List, length, leb}
-use Rattle.format.specs.Choice.{if◌then◌else◌}
+use Rattle.std.specs.Prelude.{ℕ, List, length, leb, if◌then◌else◌}
 use Rattle.format.specs.Booleans.{read_booleans}
 use Rattle.format.specs.Acts.{laid}
 use Rattle.booleans.specs.declared.BooleansRead.{BooleansRead}

@@ -13,7 +13,7 @@ use lib.IntN.{ℤ, pos}
 use lib.ListN.{length, get_or, set}
 use lib.Signed.{lt_z}
 use Rattle.format.proofs.Tests.{true-or-false, never}
-use Rattle.format.specs.Choice.{if◌then◌else◌}
+use Rattle.std.specs.Prelude.{if◌then◌else◌}
 use Rattle.format.specs.Meaning.{Point, point_of}
 use Rattle.format.specs.Merge.{merge_points}
 use Rattle.format.proofs.Orders.{time-irreflexive, time-transitive, time-total}

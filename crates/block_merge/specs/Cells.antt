@@ -6,10 +6,9 @@
 --   Moved, RunMoved, BlocksMoved   points of two blocks went into the fill
 --   Copied, BlockCopied   points of one block went into the fill
 --   Grown          the one or the other
-use Rattle.std.specs.Prelude.{ℕ, ◌+◌, ◌-◌, ◌≤◌, ◌<◌, ◌≡◌, Bool, List, [], ◌++◌, ℤ, pos, length, get_or, set}
+use Rattle.std.specs.Prelude.{ℕ, ◌+◌, ◌-◌, ◌≤◌, ◌<◌, ◌≡◌, Bool, List, [], ◌++◌, ℤ, pos, length, get_or, set, if◌then◌else◌}
 use Rattle.std.specs.Int.Signed.{lt_z}
 use Rattle.format.specs.Limits.{writer_block_most}
-use Rattle.format.specs.Choice.{if◌then◌else◌}
 use Rattle.format.specs.Meaning.{Point}
 use Rattle.format.specs.Block.{cells, filled}
 use Rattle.format.specs.Merge.{merge_points}

@@ -1,11 +1,10 @@
 -- The answer to the length of an image, before the first byte is laid (document 01: 22, 19), and the test that gives a pass up.
-use Rattle.std.specs.Prelude.{ℕ, Bool, ◌||◌, ltb, leb}
+use Rattle.std.specs.Prelude.{ℕ, Bool, ◌||◌, ltb, leb, if◌then◌else◌}
 use Rattle.format.specs.declared.ImagePlace.{ImagePlace}
 use Rattle.format.specs.declared.IndexPlace.{IndexPlace}
 use Rattle.format.specs.declared.Refusal.TheVariants.{ShortBuffer, ImageTooLong}
 use Rattle.format.specs.declared.Written.{Written}
 use Rattle.format.specs.Limits.{image_most}
-use Rattle.format.specs.Choice.{if◌then◌else◌}
 
 -- one of the places is past every image
 unfoldable pub past_image : (block : ImagePlace) → (entry : IndexPlace) → Bool

@@ -16,7 +16,7 @@ use borrow.Author.Tests.{eqb-true, eqb-false}
 use lib.Pow.{pow_pos, split}
 use lib.Dec.{eqb, lit<}
 use lib.Bits.{bit_xor, xor_lt, xor_shr, xor_mod, xor_comm, xor_shifted, xor_zero_r}
-use Rattle.format.specs.Choice.{if◌then◌else◌}
+use Rattle.std.specs.Prelude.{if◌then◌else◌}
 use Rattle.format.specs.Crc32.{polynomial, shift_bits}
 use Rattle.crc32.proofs.Xor.{both_bits, xor-swap}
 

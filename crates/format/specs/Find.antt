@@ -3,12 +3,12 @@
 --   covers, covering_entry   the entry that covers a time (18)
 --   find_entry, find_block    for a key and time
 --   exact_value      the value at an exact time (23)
-use Rattle.std.specs.Prelude.{ℕ, Bool, ◌&&◌, List, [], ◌∷◌, ℤ}
+use Rattle.std.specs.Prelude.{ℕ, Bool, ◌&&◌, List, [], ◌∷◌, ℤ, if◌then◌else◌}
 use Rattle.std.proofs.Math.Option.{Option, none, some}
 use Rattle.std.specs.Int.Signed.{le_z}
 use Rattle.format.specs.declared.Entry.{Entry}
 use Rattle.format.specs.declared.Refusal.TheVariants.{NoSuchKey, NoEntry, NoPoint}
-use Rattle.format.specs.Choice.{if◌then◌else◌, same_list}
+use Rattle.format.specs.Choice.{same_list}
 use Rattle.format.specs.Refusals.{Result, ok, refused, ◌>>=◌}
 use Rattle.format.specs.Meaning.{Point, value_at}
 use Rattle.format.specs.Block.{read_block}

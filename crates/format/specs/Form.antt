@@ -1,6 +1,5 @@
 -- The forms of a timestamps or integers section, by the high four bits of its first byte.
-use Rattle.std.specs.Prelude.{ℕ, eqb}
-use Rattle.format.specs.Choice.{if◌then◌else◌}
+use Rattle.std.specs.Prelude.{ℕ, eqb, if◌then◌else◌}
 
 -- how a section lays its numbers: forms 0, 1 and 2, or none of these
 pub data Form : Type 0 where

@@ -2,11 +2,10 @@
 --   kinds, kind_byte   the kinds, and the byte of each
 --   read_kind          the kind of a byte
 --   same_kind          two kinds are the same
-use Rattle.std.specs.Prelude.{ℕ, Bool, List, [], ◌∷◌, eqb}
+use Rattle.std.specs.Prelude.{ℕ, Bool, List, [], ◌∷◌, eqb, if◌then◌else◌}
 use Rattle.format.specs.declared.Kind.{Kind}
 use Rattle.format.specs.declared.Kind.TheVariants.{Integer, Boolean}
 use Rattle.format.specs.declared.Refusal.{Refusal}
-use Rattle.format.specs.Choice.{if◌then◌else◌}
 use Rattle.format.specs.Refusals.{Result, ok, refused}
 
 -- the kinds that are carried

@@ -12,7 +12,8 @@ use lib.Dec.{eqb}
 use Rattle.format.specs.declared.Kind.{Kind}
 use Rattle.format.specs.declared.Refusal.TheVariants.{BlockPlace}
 use Rattle.format.specs.Limits.{image_most}
-use Rattle.format.specs.Choice.{if◌then◌else◌, is_empty}
+use Rattle.std.specs.Prelude.{if◌then◌else◌}
+use Rattle.format.specs.Choice.{is_empty}
 use Rattle.format.specs.Refusals.{Result, ok, refused}
 use Rattle.format.specs.Index.{block_span, check_entry}
 use Rattle.index.specs.declared.Cursor.{Cursor}

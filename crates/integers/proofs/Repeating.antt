@@ -14,7 +14,8 @@ use lib.Dec.{eqb, leb}
 use borrow.Author.Tests.{eq-eqb, ne_eqb, eqb-true, lt-leb}
 use Rattle.format.specs.declared.Refusal.TheVariants.{Values}
 use Rattle.format.specs.Limits.{read_block_most}
-use Rattle.format.specs.Choice.{if◌then◌else◌, is_empty}
+use Rattle.std.specs.Prelude.{if◌then◌else◌}
+use Rattle.format.specs.Choice.{is_empty}
 use Rattle.format.specs.Refusals.{ok, refused, ◌>>=◌, require}
 use Rattle.format.specs.Bytes.{big_endian}
 use Rattle.format.specs.Varint.{read_varint}

@@ -9,7 +9,7 @@ use mathlib.Core.Bool.{Bool, true, false, ◌||◌}
 use mathlib.Core.List.{List, [], ◌∷◌}
 use native.Mathlib.Omega.{arith}
 use lib.ListN.{length}
-use Rattle.format.specs.Choice.{if◌then◌else◌}
+use Rattle.std.specs.Prelude.{if◌then◌else◌}
 use Rattle.format.specs.KeyOrder.{key_before}
 use Rattle.format.specs.Meaning.{Point, Series, Meaning}
 use Rattle.format.specs.Merge.{merge_points, merge, kinds_clash}

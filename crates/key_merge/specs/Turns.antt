@@ -7,9 +7,8 @@
 --   next_series, later   its series, and the series after it
 --   EntrySkipped, KeyDone   past an entry of the open key, and past all of them
 --   differs        both have the key, with two kinds
-use Rattle.std.specs.Prelude.{ℕ, ◌≤◌, ◌<◌, ◌≡◌, Bool, true, false, not, List, [], ◌∷◌}
+use Rattle.std.specs.Prelude.{ℕ, ◌≤◌, ◌<◌, ◌≡◌, Bool, true, false, not, List, [], ◌∷◌, if◌then◌else◌}
 use Rattle.format.specs.declared.Kind.{Kind}
-use Rattle.format.specs.Choice.{if◌then◌else◌}
 use Rattle.format.specs.Kinds.{same_kind}
 use Rattle.format.specs.KeyOrder.{key_before}
 use Rattle.format.specs.Meaning.{Series, Meaning}

@@ -10,7 +10,8 @@ use mathlib.Core.List.{List, [], ◌∷◌, filter_map}
 use mathlib.Core.Option.{Option, none, some, map}
 use lib.IntN.{ℤ}
 use Rattle.format.specs.declared.Kind.{Kind}
-use Rattle.format.specs.Choice.{if◌then◌else◌, Each}
+use Rattle.std.specs.Prelude.{if◌then◌else◌}
+use Rattle.format.specs.Choice.{Each}
 use Rattle.format.specs.Meaning.{Point, Series, Meaning, value_at, series_of}
 use Rattle.format.specs.WellFormed.{well_formed}
 use Rattle.format.specs.Merge.{merge, kinds_clash}

@@ -20,7 +20,8 @@ use lib.Seq.{length-take-le, take_all}
 use lib.Pow.{pow_pos, pow_mono, low, high, split}
 use lib.Dec.{eqb, ltb, leb, lit<}
 use borrow.Author.Tests.{leb-true, ltb-true, eqb-true, lt-ltb, ne_eqb}
-use Rattle.format.specs.Choice.{if◌then◌else◌, every}
+use Rattle.std.specs.Prelude.{if◌then◌else◌}
+use Rattle.format.specs.Choice.{every}
 use Rattle.format.specs.Bytes.{AllBelow}
 use Rattle.format.specs.Simple8b.{selector_count, selector_width, pack, unpack, word_opens, selector_numbers, word_numbers, fits_width, word_for}
 use Rattle.format.proofs.AllBelow.{below-nil, below-cons, below-of-every}

@@ -12,7 +12,8 @@ use lib.ListN.{length, get_or, length-map}
 use lib.Dec.{leb, lit<}
 use borrow.Author.Tests.{leb-true}
 use Rattle.format.specs.Limits.{exponent_most, packed_most}
-use Rattle.format.specs.Choice.{if◌then◌else◌, every, all_equal}
+use Rattle.std.specs.Prelude.{if◌then◌else◌}
+use Rattle.format.specs.Choice.{every, all_equal}
 use Rattle.format.specs.Bytes.{big_bytes, AllBytes}
 use Rattle.format.specs.Signed.{pattern}
 use Rattle.format.specs.Varint.{varint}

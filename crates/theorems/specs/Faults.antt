@@ -7,12 +7,12 @@
 --   BlocksFault, SeriesFault   the first block's that has one
 --   IndexFault, Fault    of an image: 1 to 11, and 1 to 16
 -- A fault is a claim of a number: it holds of the number that is refused.
-use Rattle.std.specs.Prelude.{ℕ, zero, suc, ◌+◌, ◌-◌, ◌*◌, ◌^◌, ◌≤◌, ◌<◌, ◌≡◌, ◌⊎◌, true, List, [], ◌∷◌, ◌++◌, length, take, drop, get_or, ℤ}
+use Rattle.std.specs.Prelude.{ℕ, zero, suc, ◌+◌, ◌-◌, ◌*◌, ◌^◌, ◌≤◌, ◌<◌, ◌≡◌, ◌⊎◌, true, List, [], ◌∷◌, ◌++◌, length, take, drop, get_or, ℤ, if◌then◌else◌}
 use Rattle.std.proofs.Math.Option.{Option, none, some}
 use Rattle.std.specs.Int.Signed.{le_z}
 use Rattle.format.specs.declared.Kind.{Kind}
 use Rattle.format.specs.declared.Entry.{Entry}
-use Rattle.format.specs.Choice.{if◌then◌else◌, is_empty}
+use Rattle.format.specs.Choice.{is_empty}
 use Rattle.format.specs.Bytes.{big_endian}
 use Rattle.format.specs.Varint.{varint}
 use Rattle.format.specs.Crc32.{crc32}

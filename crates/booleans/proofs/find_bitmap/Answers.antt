@@ -6,7 +6,8 @@ use mathlib.Core.Bool.{Bool, true, false}
 use lib.Dec.{eqb}
 use mathlib.Core.List.{List}
 use lib.ListN.{length, take, drop, get_or, length-drop}
-use Rattle.format.specs.Choice.{if◌then◌else◌, every}
+use Rattle.std.specs.Prelude.{if◌then◌else◌}
+use Rattle.format.specs.Choice.{every}
 use Rattle.format.specs.Refusals.{Result, ok, refused}
 use Rattle.format.specs.declared.Refusal.TheVariants.{Values}
 use Rattle.format.specs.Booleans.{bits_of_bytes, bitmap_size, read_booleans}
