@@ -8,7 +8,6 @@ use native.Mathlib.Omega.{arith}
 use lib.IntN.{ℤ}
 use Rattle.format.specs.Limits.{writer_block_most}
 use Rattle.merging.proofs.Walk.{points-end}
-use Rattle.format.specs.Block.{filled}
 use Rattle.format.proofs.Cells.{cells-none}
 use Rattle.block_merge.specs.declared.Merged.{Merged}
 use Rattle.block_merge.specs.Cells.{BlocksMoved, BlockCopied, Grown}
