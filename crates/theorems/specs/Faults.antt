@@ -3,12 +3,11 @@
 --   Unless, UnlessSome   a rule: it is broken, and that is refused; or it is kept, and what follows is judged
 --   FrameFault           1 to 4
 --   EntryFault, EntriesFault, KeyFault, span_past, KeysFault   5 to 11
---   Either               one of two facts, by a test
 --   EndsFault, ValuesFault, TimesFault, BodyFault, BlockFault   12 to 16, of a block
 --   BlocksFault, SeriesFault   the first block's that has one
 --   IndexFault, Fault    of an image: 1 to 11, and 1 to 16
 -- A fault is a claim of a number: it holds of the number that is refused.
-use Rattle.std.specs.Prelude.{ℕ, zero, suc, ◌+◌, ◌-◌, ◌*◌, ◌^◌, ◌≤◌, ◌<◌, ◌≡◌, ◌⊎◌, Bool, true, false, List, [], ◌∷◌, ◌++◌, length, take, drop, get_or, ℤ}
+use Rattle.std.specs.Prelude.{ℕ, zero, suc, ◌+◌, ◌-◌, ◌*◌, ◌^◌, ◌≤◌, ◌<◌, ◌≡◌, ◌⊎◌, true, List, [], ◌∷◌, ◌++◌, length, take, drop, get_or, ℤ, MatchBool}
 use Rattle.std.proofs.Math.Option.{Option, none, some}
 use Rattle.std.specs.Int.Signed.{le_z}
 use Rattle.format.specs.declared.Kind.{Kind}
@@ -82,11 +81,6 @@ abbrev pub span_past : (k : ℕ) → BlockSpan → List ℕ → BlockSpan
 span_past zero blocks bs = blocks
 span_past (suc k) blocks bs = span_past k (span_after blocks (big_endian (take 4 (drop 24 bs)))) (drop 28 bs)
 
--- P where the test passes, else Q
-abbrev pub Either : Bool → (P Q : Type 0) → Type 0
-Either true P Q = P
-Either false P Q = Q
-
 -- all keys, k at most: the key at the front, or where that has no fault, what follows it
 abbrev pub KeysFault : (k : ℕ) → BlockSpan → (before : List ℕ) → List ℕ → ℕ → Type 0
 KeysFault zero blocks before bs n = EndFault blocks n
@@ -95,7 +89,7 @@ KeysFault (suc k) blocks before bs n =
     ⊎ (((j : ℕ) → ¬ KeyFault blocks before bs j)
     × KeysFault k (span_past (count_field bs) blocks (drop (length_field bs + 5) bs)) (key_field bs) (drop (length_field bs + 5 + count_field bs * 28) bs) n)
     in
-    Either (is_empty bs) (EndFault blocks n) later
+    MatchBool (is_empty bs) (EndFault blocks n) later
 
 -- ---- the blocks
 
