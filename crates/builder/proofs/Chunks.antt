@@ -1,6 +1,6 @@
 -- Where our writer cuts a series.
---   cut-full   after 1,000 points
---   cut-last   the last part
+--   chunks-full   after 1,000 points
+--   chunks-last   the last part
 use Prim.Native.Nat.{ℕ, zero, suc, ◌≤◌}
 use mathlib.Core.Path.{◌≡◌, refl, ap, ap₂, ◌∙◌}
 use mathlib.Core.List.{List, [], ◌∷◌, ◌++◌}

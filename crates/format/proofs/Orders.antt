@@ -1,6 +1,6 @@
 -- The orders of times and of keys: each is strict and total.
 --   time-irreflexive, time-transitive, time-total   times, by `lt_z`
---   time-le, lt_not_le, le-reflexive, lt-le, lt-le-lt, le-lt-lt   `le_z`, and the two together
+--   lt_not_le, le-reflexive, lt-le, lt-le-lt, le-lt-lt   `le_z`, and the two together
 --   same_time-refl, same_time-path, same-time, other-time   the test of two times
 --   time-fits, fits-time                a time is a signed 64-bit number
 --   key-irreflexive, key-transitive, key-total, empty-first   keys, by `key_before`

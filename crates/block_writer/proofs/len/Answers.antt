@@ -10,22 +10,21 @@ use Rattle.block_writer.proofs.len.Goals as goal
 
 -- the parts and the whole
 record Sized (c : goal.After-varint_len) : Type 0 where
-  whole : let start = c in let a = start.args in
+  whole : let a = c.args in
       length (block_bytes a.kind (filled a.n a.times.now a.values.now))
       ≡ 5 + c.varint_len.result + c.len-times_len.result + c.values_len-values_len.result
   most : c.varint_len.result + c.len-times_len.result + c.values_len-values_len.result ≤ 20_000
 
 sized : (c : goal.After-varint_len) → Sized c
 sized c =
-    let start = c in
-    let a = start.args in
+    let a = c.args in
     let e = c.len-times_len.ensures in
     let f = c.values_len-values_len.ensures in
     let g = c.varint_len.ensures ∙ ap (λ (n : ℕ). length (varint n)) e in
-    let whole = filled-length a.kind a.n a.times.now a.values.now start.requires in
+    let whole = filled-length a.kind a.n a.times.now a.values.now c.requires in
     record {
       whole = omega (arith, whole, e, f, g);
-      most = omega (arith, whole, e, f, g, filled-most a.kind a.n a.times.now a.values.now start.requires);
+      most = omega (arith, whole, e, f, g, filled-most a.kind a.n a.times.now a.values.now c.requires);
     }
 
 pub len-times_len-requires : goal.len-times_len-requires

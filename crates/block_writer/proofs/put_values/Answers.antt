@@ -6,15 +6,13 @@ use Rattle.block_writer.proofs.put_values.Goals as goal
 
 pub put-requires : goal.put-requires
 put-requires c =
-    let start = c in
-    let fits = start.requires.0 in
-    record { le_n = (fits.count.0, fits.count.1, fits.inside); values_in_bounds = rw c.in-Integer.is at start.requires.1 }
+    let fits = c.requires.0 in
+    record { le_n = (fits.count.0, fits.count.1, fits.inside); values_in_bounds = rw c.in-Integer.is at c.requires.1 }
 
 pub put-requires-in-Boolean : goal.put-requires-in-Boolean
 put-requires-in-Boolean c =
-    let start = c in
-    let fits = start.requires.0 in (
-      rw (c.in-Boolean.is, booleans-length start.args.n start.args.values.now fits.inside) at start.requires.1,
+    let fits = c.requires.0 in (
+      rw (c.in-Boolean.is, booleans-length c.args.n c.args.values.now fits.inside) at c.requires.1,
       fits.inside,
       rw c.in-Boolean.is at fits.of-kind,
     )

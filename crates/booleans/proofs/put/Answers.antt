@@ -27,9 +27,8 @@ put_varint-start-requires c = simp length-set (omega arith)
 
 pub put_bits-requires : goal.put_bits-requires
 put_bits-requires c =
-    let s = c in
     let call = c.put_varint-start in
-    (omega (arith, call.auto.out, length-set s.args.out.now s.args.at 0x10), omega arith, s.requires.2)
+    (omega (arith, call.auto.out, length-set c.args.out.now c.args.at 0x10), omega arith, c.requires.2)
 
 pub shape_of-out : goal.shape_of-out
 shape_of-out c =

@@ -19,8 +19,7 @@ overflow_sub-n c = omega arith
 
 pub gather-requires : goal.gather-requires
 gather-requires c =
-    let s = c in
-    (omega arith, omega arith, part-bits s.args.values.now s.args.n c.loop-i.i (omega arith) 8 (omega arith) s.requires.2)
+    (omega arith, omega arith, part-bits c.args.values.now c.args.n c.loop-i.i (omega arith) 8 (omega arith) c.requires.2)
 
 pub bounds-out-place : goal.bounds-out-place
 bounds-out-place c = omega arith
@@ -63,9 +62,8 @@ overflow_sub-n-2 c = omega arith
 
 pub gather-requires-2 : goal.gather-requires-2
 gather-requires-2 c =
-    let s = c in
     let i = c.loop-i.i in
-    (omega arith, omega arith, part-bits s.args.values.now s.args.n i (omega arith) (s.args.n - i) (omega arith) s.requires.2)
+    (omega arith, omega arith, part-bits c.args.values.now c.args.n i (omega arith) (c.args.n - i) (omega arith) c.requires.2)
 
 pub bounds-out-place-2 : goal.bounds-out-place-2
 bounds-out-place-2 c = omega arith

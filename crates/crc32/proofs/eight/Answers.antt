@@ -9,8 +9,7 @@ use Rattle.crc32.proofs.eight.Goals as goal
 
 pub overflow_cast-x-2 : goal.overflow_cast-x-2
 overflow_cast-x-2 c =
-    let at = c in
-    record { fits = omega (arith, xor_lt 64 at.args.c c.word.result (omega (arith, at.ranges.c)) (omega (arith, c.word.type_inv))) }
+    record { fits = omega (arith, xor_lt 64 c.args.c c.word.result (omega (arith, c.ranges.c)) (omega (arith, c.word.type_inv))) }
 
 pub returns : goal.returns
 returns c =

@@ -5,11 +5,10 @@ use Rattle.crc32.proofs.narrow.Goals as goal
 
 pub returns : goal.returns
 returns c =
-    let at = c in
-    let a = at.args in
+    let a = c.args in
     let v = c.eight-v in
     let w = c.eight-w in
     let x = c.eight-x in
     let y = c.eight-y in
     narrowed a.a a.b a.c a.d a.e v.result w.result x.result y.result c.eight.result a.s.now a.i
-    (search rules) at.requires.1 v.ensures w.ensures x.ensures y.ensures c.eight.ensures
+    (search rules) c.requires.1 v.ensures w.ensures x.ensures y.ensures c.eight.ensures

@@ -11,9 +11,8 @@ use Rattle.crc32.proofs.word_on.Goals as goal
 
 pub returns : goal.returns
 returns c =
-    let a = c in
-    let k = a.args.k in
-    let x = a.args.x in
-    let none : x / 16 ^ 8 ≡ 0 = omega (arith, a.ranges.x) in
+    let k = c.args.k in
+    let x = c.args.x in
+    let none : x / 16 ^ 8 ≡ 0 = omega (arith, c.ranges.x) in
     let bits : 4 * (k + 8) ≡ 4 * k + 32 = omega arith in
     cc (by-groups k 8 0 x, add-zero k, div-one x, none, bits, bits-zero (4 * k), xor_zero_r (shift_bits (4 * k + 4) (x / 0x1000_0000 % 16)))

@@ -7,11 +7,9 @@ use Rattle.feed.proofs.key.Goals as goal
 
 pub slice_bounds-result-end : goal.slice_bounds-result-end
 slice_bounds-result-end c =
-    let p = c in
-    let st = starts p.args.image.now p.args.feed p.requires in
-    omega (arith, st.start, st.framed, simp (length-take, length-drop) at p.requires.sound.key)
+    let st = starts c.args.image.now c.args.feed c.requires in
+    omega (arith, st.start, st.framed, simp (length-take, length-drop) at c.requires.sound.key)
 
 pub returns : goal.returns
 returns c =
-    let p = c in
-    rw c.in_image-at.ensures (key-part p.args.image.now p.args.feed p.requires)
+    rw c.in_image-at.ensures (key-part c.args.image.now c.args.feed c.requires)

@@ -5,9 +5,8 @@ use Rattle.feed.proofs.open_block.Goals as goal
 
 pub read_good-requires : goal.read_good-requires
 read_good-requires c =
-    let p = c in
     let part = c.block_part.ensures in
-    (rw part p.requires.0, rw part (block-long _ _ p.requires.1).1, search rules, search rules)
+    (rw part c.requires.0, rw part (block-long _ _ c.requires.1).1, search rules, search rules)
 
 pub returns : goal.returns
 returns c =

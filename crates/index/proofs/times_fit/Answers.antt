@@ -14,11 +14,9 @@ compared a b fa fb t h = sym (ap₂ le_z (to_z-of_z w64 a fa) (to_z-of_z w64 b f
 
 pub returns-then-min-max : goal.returns-then-min-max
 returns-then-min-max c =
-    let p = c in
-    rw (compared p.args.min p.args.max p.ranges.min p.ranges.max true c.if-min-max.true)
-    (simp (to_z-of_z w64 p.args.min p.ranges.min) at c.above_max.ensures)
+    rw (compared c.args.min c.args.max c.ranges.min c.ranges.max true c.if-min-max.true)
+    (simp (to_z-of_z w64 c.args.min c.ranges.min) at c.above_max.ensures)
 
 pub returns-else-min-max : goal.returns-else-min-max
 returns-else-min-max c =
-    let p = c in
-    rw (compared p.args.min p.args.max p.ranges.min p.ranges.max false c.if-min-max.false)
+    rw (compared c.args.min c.args.max c.ranges.min c.ranges.max false c.if-min-max.false)

@@ -7,8 +7,7 @@ use Rattle.integers.proofs.difference.Goals as goal
 
 pub returns : goal.returns
 returns c =
-    let start = c in
-    let n = start.args.stored in
+    let n = c.args.stored in
     c.pattern.ensures
     ∙ ap (λ (z : ℤ). pattern (signed (pattern z))) c.unzigzag.ensures
-    ∙ ap pattern (signed-pattern (unzigzag n) (unzigzag-below n start.ranges.stored.fits))
+    ∙ ap pattern (signed-pattern (unzigzag n) (unzigzag-below n c.ranges.stored.fits))

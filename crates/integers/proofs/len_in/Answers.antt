@@ -9,8 +9,7 @@ use Rattle.integers.proofs.len_in.Goals as goal
 
 pub returns : goal.returns
 returns c =
-    let start = c in
-    let a = start.args in
+    let a = c.args in
     c.section_len.ensures
     ∙ ap (λ (xs : List ℕ). length (stored_section xs))
-    (ap (take a.n) c.store.ensures ∙ stored-front a.values.now _ a.n start.requires.1)
+    (ap (take a.n) c.store.ensures ∙ stored-front a.values.now _ a.n c.requires.1)

@@ -33,12 +33,11 @@ loop-i-smaller c = omega arith
 
 pub loop-i-preserved : goal.loop-i-preserved
 loop-i-preserved c =
-    let s = c in
     let at = c.loop-i in
     let v = c.wrap_add-value.result in
-    let rest = replicate (s.args.n - (at.i + 1)) s.args.number in
-    let value : v ≡ value_after at.value s.args.number = c.wrap_add-value.ensures ∙ ap (wrap_add at.value) c.difference-step.ensures in
-    let more : replicate (s.args.n - at.i) s.args.number ≡ s.args.number ∷ rest = repeated-next at.i s.args.n s.args.number c.loop-i-test.true in (
+    let rest = replicate (c.args.n - (at.i + 1)) c.args.number in
+    let value : v ≡ value_after at.value c.args.number = c.wrap_add-value.ensures ∙ ap (wrap_add at.value) c.difference-step.ensures in
+    let more : replicate (c.args.n - at.i) c.args.number ≡ c.args.number ∷ rest = repeated-next at.i c.args.n c.args.number c.loop-i-test.true in (
       omega arith,
       omega arith,
       length-set at.values at.i v ∙ at.invariant.2,
@@ -52,9 +51,8 @@ shape_of-values c = c.loop-i.invariant.2 ∙ simp length-set
 
 pub returns : goal.returns
 returns c =
-    let s = c in
     let at = c.loop-i in
-    let rest = values_from s.args.first (replicate (s.args.n - 1) s.args.number) in
-    let none : s.args.n - at.i ≡ 0 = omega (arith, c.loop-i-test.false) in
+    let rest = values_from c.args.first (replicate (c.args.n - 1) c.args.number) in
+    let none : c.args.n - at.i ≡ 0 = omega (arith, c.loop-i-test.false) in
     let laid : splice at.i [] at.values ≡ splice 1 rest _ = rw none at at.invariant.3 in
-    sym (splice-nothing at.i at.values) ∙ laid ∙ first-laid s.args.first rest s.args.values.now (omega (arith, s.requires))
+    sym (splice-nothing at.i at.values) ∙ laid ∙ first-laid c.args.first rest c.args.values.now (omega (arith, c.requires))

@@ -28,10 +28,9 @@ loop-i-smaller c = omega arith
 pub loop-i-preserved : goal.loop-i-preserved
 loop-i-preserved c =
     let l = c.loop-i in
-    let p = c in
-    alike-more p.args.first.now p.args.second.now p.args.len l.i
+    alike-more c.args.first.now c.args.second.now c.args.len l.i
     (λ n. (c.shared_slice_known-1.given n).fits) (λ n. (c.shared_slice_known-2-1.given n).fits)
-    p.requires.0 p.requires.1 l.invariant c.loop-i-test.true (sym c.read_u64.ensures ∙ c.if-read_u64.false ∙ c.read_u64-in-loop-i.ensures)
+    c.requires.0 c.requires.1 l.invariant c.loop-i-test.true (sym c.read_u64.ensures ∙ c.if-read_u64.false ∙ c.read_u64-in-loop-i.ensures)
 
 pub returns : goal.returns
 returns c = c.loop-i.invariant

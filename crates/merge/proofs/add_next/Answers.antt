@@ -1,56 +1,17 @@
 -- `add_next` meets its contract: the next series of the merge is added, unless none is left or a place is past every image.
-use Prim.Native.Nat.{◌≤◌}
-use mathlib.Core.Path.{sym, subst, ◌∙◌}
-use mathlib.Core.Bool.{Bool}
-use Rattle.format.specs.Limits.{image_most}
-use Rattle.feed.specs.declared.Feed.{Feed}
+use mathlib.Core.Path.{sym, ◌∙◌}
 use Rattle.builder.proofs.Judges.{past-both, past-neither}
-use Rattle.key_merge.specs.Turns.{TurnAs}
 use Rattle.key_merge.proofs.Keys.{Turned, turned}
 use Rattle.merge.proofs.Passes.{passing-past, passing-end, passing-ready, next-added}
 use Rattle.merge.proofs.add_next.Goals as goal
+use Rattle.merge.proofs.add_next.Goals.{In-Key}
 
 -- the next key
-module _ (c : goal.After-add_series-arg-7-1) where
-  abbrev x : Feed
-  x = c.in-Key.older_key
-
-  abbrev y : Feed
-  y = c.in-Key.newer_key
-
-  abbrev second : Bool
-  second = c.in-Key.from_newer
-
-  turn_is : Turned c.args.older.now c.args.at.older c.args.newer.now c.args.at.newer x y second
-  turn_is =
-      let a = c.args in
-      let i = c.requires.0 in
-      turned _ _ i.older-stands i.older-done _ _ i.newer-stands i.newer-done x y c.in-Key.from_older second
-      (subst (TurnAs a.older.now a.at.older a.newer.now a.at.newer) c.in-Key.is c.next_turn-turn.ensures)
-
-  within : (c.args.at.block.0 ≤ image_most) × (c.args.at.entry.0 ≤ image_most)
-  within = past-neither c.args.at.block c.args.at.entry (sym c.past.ensures ∙ c.if-past.false)
-
--- the next key
-module _ (c : goal.After-slice_known-8-1) where
-  abbrev x-2 : Feed
-  x-2 = c.in-Key.older_key
-
-  abbrev y-2 : Feed
-  y-2 = c.in-Key.newer_key
-
-  abbrev second-2 : Bool
-  second-2 = c.in-Key.from_newer
-
-  turn_is-2 : Turned c.args.older.now c.args.at.older c.args.newer.now c.args.at.newer x-2 y-2 second-2
-  turn_is-2 =
-      let a = c.args in
-      let i = c.requires.0 in
-      turned _ _ i.older-stands i.older-done _ _ i.newer-stands i.newer-done x-2 y-2 c.in-Key.from_older second-2
-      (subst (TurnAs a.older.now a.at.older a.newer.now a.at.newer) c.in-Key.is c.next_turn-turn.ensures)
-
-  within-2 : (c.args.at.block.0 ≤ image_most) × (c.args.at.entry.0 ≤ image_most)
-  within-2 = past-neither c.args.at.block c.args.at.entry (sym c.past.ensures ∙ c.if-past.false)
+turn_is : (c : In-Key) → Turned c.args.older.now c.args.at.older c.args.newer.now c.args.at.newer c.in-Key.older_key c.in-Key.newer_key c.in-Key.from_newer
+turn_is c =
+    let i = c.requires.0 in
+    turned _ _ i.older-stands i.older-done _ _ i.newer-stands i.newer-done c.in-Key.older_key c.in-Key.newer_key c.in-Key.from_older
+    c.in-Key.from_newer c.in-Key.ensures
 
 pub returns-then-past : goal.returns-then-past
 returns-then-past c =
@@ -64,13 +25,12 @@ next_turn-turn-requires c =
 
 pub returns-in_default : goal.returns-in_default
 returns-in_default c =
-    let a = c.args in
-    passing-end c.requires.0 (subst (TurnAs a.older.now a.at.older a.newer.now a.at.newer) c.in_default.is c.next_turn-turn.ensures)
+    passing-end c.requires.0 c.in_default.ensures
 
 pub add_series-requires : goal.add_series-requires
 add_series-requires c =
-    let k = c in
-    passing-ready k.requires.0 (turn_is k) _ _ _ _ _ _ k.requires.1 (within k).0 (within k).1
+    let within = past-neither c.args.at.block c.args.at.entry (sym c.past.ensures ∙ c.if-past.false) in
+    passing-ready c.requires.0 (turn_is (goal.at.add_series-requires c).In-Key) _ _ _ _ _ _ c.requires.1 within.0 within.1
 
 pub shape_of-older_times : goal.shape_of-older_times
 shape_of-older_times c = c.add_series.auto.older_times
@@ -95,5 +55,4 @@ shape_of-values c = c.add_series.auto.values
 
 pub returns : goal.returns
 returns c =
-    let k = c in
-    next-added k.requires.0 (turn_is-2 k) c.add_series.result c.add_series.new.out c.add_series.ensures
+    next-added c.requires.0 (turn_is (goal.at.returns c).In-Key) c.add_series.result c.add_series.new.out c.add_series.ensures

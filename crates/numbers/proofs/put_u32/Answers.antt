@@ -5,5 +5,4 @@ use Rattle.numbers.proofs.put_u32.Goals as goal
 
 pub returns : goal.returns
 returns c =
-    let start = c in
-    rw (← splice-big_bytes start.args.at 2 2 start.args.n start.args.out.now (omega arith)) (cc)
+    rw (← splice-big_bytes c.args.at 2 2 c.args.n c.args.out.now (omega arith)) (cc)

@@ -5,5 +5,4 @@ use Rattle.numbers.proofs.put_u64.Goals as goal
 
 pub returns : goal.returns
 returns c =
-    let start = c in
-    rw (← splice-big_bytes start.args.at 4 4 start.args.n start.args.out.now (omega arith)) (cc)
+    rw (← splice-big_bytes c.args.at 4 4 c.args.n c.args.out.now (omega arith)) (cc)

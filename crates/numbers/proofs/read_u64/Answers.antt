@@ -5,7 +5,6 @@ use Rattle.numbers.proofs.read_u64.Goals as goal
 
 pub returns : goal.returns
 returns c =
-    let start = c in
-    let s = start.args.s.now in
-    let at = start.args.at in
+    let s = c.args.s.now in
+    let at = c.args.at in
     rw (big_endian-part s at 6 2 (omega arith), big_endian-part s at 4 2 (omega arith), big_endian-part s at 2 2 (omega arith)) (cc)

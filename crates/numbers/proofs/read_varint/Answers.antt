@@ -8,21 +8,18 @@ overflow_cast-first c = omega (arith, c.shared_slice_known-then-at-s-1.given c.a
 
 pub returns-then-first-lt-GROUP : goal.returns-then-first-lt-GROUP
 returns-then-first-lt-GROUP c =
-    let start = c in
-    scan-first start.args.s.now start.args.at c.if-at-s.true c.if-first-lt-GROUP.true
+    scan-first c.args.s.now c.args.at c.if-at-s.true c.if-first-lt-GROUP.true
 
 pub read_more-requires : goal.read_more-requires
 read_more-requires c =
-    let start = c in
-    let byte = get_or start.args.s.now start.args.at 0 in
+    let byte = get_or c.args.s.now c.args.at 0 in
     let large : 128 ≤ byte = c.if-first-lt-GROUP.false in
     let not : byte ≡ 0 → ⊥ = λ e. omega arith in
     let low : 0 + (byte - 128) * 1 ≡ byte - 128 = omega arith in
     rw low at
-    (scan-more (scan-start start.args.s.now start.args.at start.requires) c.if-at-s.true (kept-middle 0 byte (omega arith) not) large
-    (c.shared_slice_known-then-at-s-1.given start.args.at).fits)
+    (scan-more (scan-start c.args.s.now c.args.at c.requires) c.if-at-s.true (kept-middle 0 byte (omega arith) not) large
+    (c.shared_slice_known-then-at-s-1.given c.args.at).fits)
 
 pub returns : goal.returns
 returns c =
-    let start = c in
-    scan-end (scan-start start.args.s.now start.args.at start.requires) c.if-at-s.false
+    scan-end (scan-start c.args.s.now c.args.at c.requires) c.if-at-s.false

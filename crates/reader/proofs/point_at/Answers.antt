@@ -35,8 +35,7 @@ bounds-patterns-i c = omega arith
 
 pub returns-then-times-i : goal.returns-then-times-i
 returns-then-times-i c =
-    let p = c in
-    let a = p.args in
+    let a = c.args in
     let at = c.loop-i in
     let x = get_or a.times.now at.i (pos 0) in
     let asked = to_z w64 (of_z w64 a.time) in
@@ -48,7 +47,7 @@ returns-then-times-i c =
     ap (λ (z : ℤ). point_read_says (PointRead.Value a.entry z)) (to_z-of_z w64 c.signed.result fits ∙ c.signed.ensures)
     ∙ sym (point-here a.entry asked a.times.now a.patterns.now a.n at.i more inside within same)
     ∙ at.invariant.1
-    ∙ ap (λ (z : ℤ). point_answer a.entry z (filled a.n a.times.now a.patterns.now)) (to_z-of_z w64 a.time p.ranges.time)
+    ∙ ap (λ (z : ℤ). point_answer a.entry z (filled a.n a.times.now a.patterns.now)) (to_z-of_z w64 a.time c.ranges.time)
 
 pub overflow_add-i : goal.overflow_add-i
 overflow_add-i c = omega arith
@@ -58,12 +57,11 @@ loop-i-smaller c = omega arith
 
 pub loop-i-preserved : goal.loop-i-preserved
 loop-i-preserved c =
-    let p = c in
-    let a = p.args in
+    let a = c.args in
     let at = c.loop-i in
     let x = get_or a.times.now at.i (pos 0) in
     let asked = to_z w64 (of_z w64 a.time) in
-    let other = other-time x asked (λ e. c.if-times-i.false (ap (of_z w64) (e ∙ to_z-of_z w64 a.time p.ranges.time))) in
+    let other = other-time x asked (λ e. c.if-times-i.false (ap (of_z w64) (e ∙ to_z-of_z w64 a.time c.ranges.time))) in
     let more : at.i < a.n = omega arith in
     let inside : a.n ≤ length a.times.now = omega arith in
     let within : a.n ≤ length a.patterns.now = omega arith in
@@ -71,9 +69,8 @@ loop-i-preserved c =
 
 pub returns : goal.returns
 returns c =
-    let p = c in
-    let a = p.args in
+    let a = c.args in
     let at = c.loop-i in
     sym (point-none a.entry (to_z w64 (of_z w64 a.time)) a.times.now a.patterns.now a.n at.i (omega arith))
     ∙ at.invariant.1
-    ∙ ap (λ (z : ℤ). point_answer a.entry z (filled a.n a.times.now a.patterns.now)) (to_z-of_z w64 a.time p.ranges.time)
+    ∙ ap (λ (z : ℤ). point_answer a.entry z (filled a.n a.times.now a.patterns.now)) (to_z-of_z w64 a.time c.ranges.time)

@@ -5,8 +5,7 @@ use Rattle.reader.proofs.read_entry.Goals as goal
 
 pub read-requires : goal.read-requires
 read-requires c =
-    let p = c in
-    let long = block-long _ _ p.requires.0 in
+    let long = block-long _ _ c.requires.0 in
     let part = c.block_part.ensures in
     (rw part long.0, rw part long.1, search rules, search rules)
 

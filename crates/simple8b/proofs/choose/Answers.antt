@@ -26,14 +26,12 @@ overflow_cast-width c = omega arith
 
 pub run-i-requires : goal.run-i-requires
 run-i-requires c =
-    let b = c in
-    let k = known _ b.selector_at-selector.result (omega (arith, b.loop-p-test.true)) b.selector_at-selector.ensures in
-    (b.loop-p.invariant.inside, c.if-count-numbers.true, k.wide)
+    let k = known _ c.selector_at-selector.result (omega (arith, c.loop-p-test.true)) c.selector_at-selector.ensures in
+    (c.loop-p.invariant.inside, c.if-count-numbers.true, k.wide)
 
 pub returns-then-count-i : goal.returns-then-count-i
 returns-then-count-i c =
-    let b = c in
-    search-hit b.loop-p.invariant b.loop-p-test.true b.selector_at-selector.result b.selector_at-selector.ensures
+    search-hit c.loop-p.invariant c.loop-p-test.true c.selector_at-selector.result c.selector_at-selector.ensures
     c.run-i.ensures c.if-count-numbers.true c.if-count-i.true
 
 pub overflow_add-p : goal.overflow_add-p

@@ -27,21 +27,18 @@ module _ (d scale most left : ℕ) (hs : 1 ≤ scale) (e : most ≡ (2 ^ 64 - 1)
 
 pub returns-then-most-wrap_sub : goal.returns-then-most-wrap_sub
 returns-then-most-wrap_sub c =
-    let s = c in
-    passes s.args.difference s.args.scale s.args.most s.args.left s.requires.0 s.requires.1 s.ranges.difference.fits s.ranges.most.fits s.ranges.left.fits
+    passes c.args.difference c.args.scale c.args.most c.args.left c.requires.0 c.requires.1 c.ranges.difference.fits c.ranges.most.fits c.ranges.left.fits
     (rw c.wrap_sub.ensures at c.if-most-wrap_sub.true)
 
 pub overflow_mul-distance : goal.overflow_mul-distance
 overflow_mul-distance c =
-    let s = c in
-    let h = within s.args.difference s.args.most s.ranges.difference.fits s.ranges.most.fits (rw c.wrap_sub.ensures at c.if-most-wrap_sub.false) in
-    record { fits = scale-most s.args.scale s.args.difference s.requires.0 (rw s.requires.1 at h.1) }
+    let h = within c.args.difference c.args.most c.ranges.difference.fits c.ranges.most.fits (rw c.wrap_sub.ensures at c.if-most-wrap_sub.false) in
+    record { fits = scale-most c.args.scale c.args.difference c.requires.0 (rw c.requires.1 at h.1) }
 
 pub returns-then-left-distance : goal.returns-then-left-distance
 returns-then-left-distance c = inr c.if-left-distance.true
 
 pub returns : goal.returns
 returns c =
-    let s = c in
-    let h = within s.args.difference s.args.most s.ranges.difference.fits s.ranges.most.fits (rw c.wrap_sub.ensures at c.if-most-wrap_sub.false) in
-    (scale-least s.args.scale s.args.difference s.requires.0 (λ z. omega (arith, h.0)), c.if-left-distance.false, refl)
+    let h = within c.args.difference c.args.most c.ranges.difference.fits c.ranges.most.fits (rw c.wrap_sub.ensures at c.if-most-wrap_sub.false) in
+    (scale-least c.args.scale c.args.difference c.requires.0 (λ z. omega (arith, h.0)), c.if-left-distance.false, refl)
