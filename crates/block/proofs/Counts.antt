@@ -10,7 +10,7 @@ use lib.IntN.{ℤ}
 use lib.ListN.{length, take, drop, length-drop}
 use Rattle.format.specs.declared.Kind.{Kind}
 use Rattle.format.specs.declared.Entry.{Entry}
-use Rattle.format.specs.Refusals.{Result, ok, refused, is_ok}
+use Rattle.format.specs.Refusals.{Outcome, ok, refused, is_ok}
 use Rattle.format.specs.Timestamps.{read_times}
 use Rattle.format.specs.Block.{read_block}
 use Rattle.format.proofs.Results.{shifted, refused-not, ok-path}
@@ -27,7 +27,7 @@ use Rattle.booleans.proofs.Values.{values-count}
 use Rattle.block.proofs.Sections.{times-at}
 use Rattle.block.proofs.Bodies.{Good, head-number, sections-broken}
 
-unshifted : (d : ℕ) (a : Result (List ℤ)) (ts : List ℤ) → shifted d a ≡ ok ts → a ≡ ok ts
+unshifted : (d : ℕ) (a : Outcome (List ℤ)) (ts : List ℤ) → shifted d a ≡ ok ts → a ≡ ok ts
 unshifted d (ok us) ts e = e
 unshifted d (refused r place) ts e = refused-not e
 

@@ -8,7 +8,7 @@ use lib.IntN.{ℤ}
 use lib.ListN.{length, take, drop}
 use Rattle.format.specs.declared.Kind.{Kind}
 use Rattle.format.specs.declared.Refusal.TheVariants.{Timestamps, Values}
-use Rattle.format.specs.Refusals.{Result}
+use Rattle.format.specs.Refusals.{Outcome}
 use Rattle.format.specs.Meaning.{Point}
 use Rattle.format.specs.Timestamps.{read_times}
 use Rattle.format.specs.Block.{read_values, points_from}
@@ -28,7 +28,7 @@ module _ (kind : Kind) (offset next split : ℕ) (s : List ℕ) (old_times new_t
   abbrev values_part : List ℕ
   values_part = drop split s
 
-  abbrev parts : Result (List Point)
+  abbrev parts : Outcome (List Point)
   parts = read_parts kind offset next split s
 
   -- an answer, and the cells after it

@@ -19,7 +19,7 @@ use Rattle.format.specs.declared.Refusal.TheVariants.{ShortBuffer, ImageTooLong}
 use Rattle.format.specs.declared.Written.{Written}
 use Rattle.format.specs.Limits.{image_most}
 use Rattle.format.specs.Bytes.{overwrite}
-use Rattle.format.specs.Refusals.{Result, refused, answer_of}
+use Rattle.format.specs.Refusals.{Outcome, refused, answer_of}
 use Rattle.format.specs.Meaning.{Meaning}
 use Rattle.format.specs.Writer.{writer_image}
 use Rattle.format.specs.Acts.{laid, image_result, written_says, sized}
@@ -89,16 +89,16 @@ module _ (m : Meaning) (out : List ℕ) where
       ⊎_elim
       (λ (k : length out < total). refusing ShortBuffer (judged-short total (length out) h k) (image-short m out h k))
       (λ (k : total ≤ length out). record {
-        says = ap written_says (judged-fits total (length out) h k) ∙ ap (λ (x : Result (List ℕ)). answer_of (sized x)) (sym (image-fits m out h k));
+        says = ap written_says (judged-fits total (length out) h k) ∙ ap (λ (x : Outcome (List ℕ)). answer_of (sized x)) (sym (image-fits m out h k));
         left = λ r e. let f = judged-fits total (length out) h k in let w : ◌≡◌ {A = ℕ} 0 1 = cc in absurd (omega arith);
-        laid-over = λ n e. (h, k, ap (λ (x : Result (List ℕ)). laid x out) (image-fits m out h k));
+        laid-over = λ n e. (h, k, ap (λ (x : Outcome (List ℕ)). laid x out) (image-fits m out h k));
       })
       (below_or (length out) total))
       (below_or image_most total)
     where
       refusing : (r : Refusal) → judged total (length out) ≡ Written.Refused r → image_result m out ≡ refused r 0 → Answers (judged total (length out))
       refusing r j i = record {
-        says = ap written_says j ∙ ap (λ (x : Result (List ℕ)). answer_of (sized x)) (sym i);
-        left = λ q e. ap (λ (x : Result (List ℕ)). laid x out) i;
+        says = ap written_says j ∙ ap (λ (x : Outcome (List ℕ)). answer_of (sized x)) (sym i);
+        left = λ q e. ap (λ (x : Outcome (List ℕ)). laid x out) i;
         laid-over = λ n e. let w : ◌≡◌ {A = ℕ} 0 1 = cc in absurd (omega arith);
       }

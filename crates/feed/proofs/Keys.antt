@@ -12,7 +12,7 @@ use lib.Seq.{drop-drop, take-take}
 use Rattle.format.specs.declared.Entry.{Entry}
 use Rattle.format.specs.declared.Refusal.{Refusal}
 use Rattle.format.specs.declared.ImagePlace.{ImagePlace}
-use Rattle.format.specs.Refusals.{Result, ok, ◌>>=◌, is_ok}
+use Rattle.format.specs.Refusals.{Outcome, ok, ◌>>=◌, is_ok}
 use Rattle.format.specs.Index.{IndexKey}
 use Rattle.format.specs.File.{read_blocks, read_series, read_file}
 use Rattle.index.specs.declared.Cursor.{Cursor}
@@ -48,7 +48,7 @@ module _ (image : List ℕ) (good : is_ok (read_file image) ≡ true) where
         frame = s.good;
         start = s.start;
         sound = image-sound image p s;
-        index = index-rest image p s ∙ ap (λ (r : Result (List IndexKey)). r >>= keys_only) read.1;
+        index = index-rest image p s ∙ ap (λ (r : Outcome (List IndexKey)). r >>= keys_only) read.1;
         blocks = none_read;
         series = read.2;
         next-most = zero-le;

@@ -7,7 +7,7 @@ use mathlib.Core.Path.{◌≡◌, ap}
 use mathlib.Core.List.{List, []}
 use Rattle.format.specs.declared.Entry.{Entry}
 use Rattle.format.specs.Limits.{read_block_most}
-use Rattle.format.specs.Refusals.{Result, ok}
+use Rattle.format.specs.Refusals.{Outcome, ok}
 use Rattle.format.specs.Meaning.{Point, Meaning}
 use Rattle.format.specs.Index.{IndexKey}
 use Rattle.format.specs.File.{index_start, check_frame, read_blocks, read_series}
@@ -38,11 +38,11 @@ pub record Left (image : List ℕ) (f : Feed) (ps : List Point) (m : Meaning) : 
 module _ (image : List ℕ) (f : Feed) (es : List Entry) (ks : List IndexKey) where
   entries-are : index_left image f ≡ ok (es, ks) → entries_left image f ≡ es
   unfolding entries_left
-  entries-are e = ap (λ (r : Result (List Entry × List IndexKey)). (read_or ([], []) r).0) e
+  entries-are e = ap (λ (r : Outcome (List Entry × List IndexKey)). (read_or ([], []) r).0) e
 
   keys-are : index_left image f ≡ ok (es, ks) → keys_left image f ≡ ks
   unfolding keys_left
-  keys-are e = ap (λ (r : Result (List Entry × List IndexKey)). (read_or ([], []) r).1) e
+  keys-are e = ap (λ (r : Outcome (List Entry × List IndexKey)). (read_or ([], []) r).1) e
 
   blocks-are : (ps : List Point) → entries_left image f ≡ es → read_blocks image es ≡ ok ps → blocks_left image f ≡ ps
   unfolding blocks_left

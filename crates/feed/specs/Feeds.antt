@@ -15,7 +15,7 @@ use Rattle.std.specs.Prelude.{ℕ, ◌≤◌, ◌<◌, ◌≡◌, List, [], ◌�
 use Rattle.format.specs.declared.Entry.{Entry}
 use Rattle.format.specs.declared.ImagePlace.{ImagePlace}
 use Rattle.format.specs.Limits.{read_block_most}
-use Rattle.format.specs.Refusals.{Result, ok}
+use Rattle.format.specs.Refusals.{Outcome, ok}
 pub use Rattle.format.specs.Refusals.{read_or}
 use Rattle.format.specs.Meaning.{Point, Series, Meaning}
 use Rattle.format.specs.Block.{cells}
@@ -33,7 +33,7 @@ unfoldable pub key_of : List ℕ → Feed → List ℕ
 key_of image f = key_at (index_part image f.start.0) f.cursor.key
 
 -- what the index has left
-abbrev pub index_left : List ℕ → Feed → Result (List Entry × List IndexKey)
+abbrev pub index_left : List ℕ → Feed → Outcome (List Entry × List IndexKey)
 index_left image f = rest (index_part image f.start.0) f.start.0 f.cursor
 
 -- the entries of the open key whose blocks are not decoded yet

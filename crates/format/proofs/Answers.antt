@@ -11,8 +11,9 @@ use lib.ListN.{get_or}
 use mathlib.Core.Bool.{true}
 use Rattle.format.specs.declared.Refusal.{Refusal}
 use Rattle.format.specs.declared.Refusal.TheVariants.{ImageLength, Magic, Version, IndexStart, EntryPastIndex, KeyLength, UnknownKind, NoBlocks, KeyOrder, TimeOrder, BlockPlace, Checksum, BlockHead, Timestamps, Values, TimesDiffer, NoSuchKey, NoEntry, ShortBuffer, BadRoll, KindClash, ImageTooLong, NoPoint}
-use Rattle.format.specs.declared.Checked.{Checked}
-use Rattle.format.specs.Refusals.{Result, ok, refused, refusal_number, Answer, gives, refuses, answer_of, is_ok}
+use Rattle.std.specs.Prelude.{Ok, Err}
+use Rattle.format.specs.declared.Totals.{Totals}
+use Rattle.format.specs.Refusals.{Outcome, ok, refused, refusal_number, Answer, gives, refuses, answer_of, is_ok}
 use Rattle.format.specs.Meaning.{Meaning}
 use Rattle.format.specs.Acts.{check_result, check_answer, checked_says}
 use Rattle.format.specs.File.{read_file}
@@ -64,36 +65,36 @@ module _ {A : Type 0} where
   refuses-path e = cc
 
   -- an answer that gives, gives the value of its result
-  pub answer_ok : (x : Result A) (a : A) → answer_of x ≡ gives a → x ≡ ok a
+  pub answer_ok : (x : Outcome A) (a : A) → answer_of x ≡ gives a → x ≡ ok a
   answer_ok (ok b) a e = ap ok (gives-path e)
   answer_ok (refused r place) a e = let z : ◌≡◌ {A = ℕ} 0 1 = cc in absurd (omega arith)
 
   -- an answer that refuses comes of a refusal of that number
-  pub answer-refused : (x : Result A) (r : Refusal) → answer_of x ≡ refuses (refusal_number r) → (place : ℕ) × (x ≡ refused r place)
+  pub answer-refused : (x : Outcome A) (r : Refusal) → answer_of x ≡ refuses (refusal_number r) → (place : ℕ) × (x ≡ refused r place)
   answer-refused (ok b) r e = let z : ◌≡◌ {A = ℕ} 0 1 = cc in absurd (omega arith)
   answer-refused (refused q place) r e = (place, ap (λ (s : Refusal). refused s place) (refusal-same q r (refuses-path e)))
 
-  pub answer-number : (x : Result A) (n : ℕ) → answer_of x ≡ refuses n → (r : Refusal) × (place : ℕ) × (x ≡ refused r place) × (refusal_number r ≡ n)
+  pub answer-number : (x : Outcome A) (n : ℕ) → answer_of x ≡ refuses n → (r : Refusal) × (place : ℕ) × (x ≡ refused r place) × (refusal_number r ≡ n)
   answer-number (ok b) n e = let z : ◌≡◌ {A = ℕ} 0 1 = cc in absurd (omega arith)
   answer-number (refused q place) n e = (q, place, refl, refuses-path e)
 
 -- ---- the full check of an image
 
 module _ (image : List ℕ) where
-  pub checked-accepted : (keys points : ℕ) → checked_says (Checked.Totals keys points) ≡ check_answer image → is_ok (read_file image) ≡ true
+  pub checked-accepted : (totals : Totals) → checked_says (Ok totals) ≡ check_answer image → is_ok (read_file image) ≡ true
   unfolding check_result
-  checked-accepted keys points e = go (read_file image) refl
+  checked-accepted totals e = go (read_file image) refl
     where
-      go : (r : Result Meaning) → read_file image ≡ r → is_ok r ≡ true
+      go : (r : Outcome Meaning) → read_file image ≡ r → is_ok r ≡ true
       go (ok m) read = refl
       go (refused r place) read = let no = rw read at e in let z : ◌≡◌ {A = ℕ} 0 1 = cc in absurd (omega arith)
 
-  pub check-refused : (why : Refusal) → checked_says (Checked.Refused why) ≡ check_answer image
+  pub check-refused : (why : Refusal) → checked_says (Err why) ≡ check_answer image
       → (q : Refusal) × (place : ℕ) × (read_file image ≡ refused q place) × (refusal_number why ≡ refusal_number q)
   unfolding check_result
   check-refused why e = go (read_file image) refl
     where
-      go : (r : Result Meaning) → read_file image ≡ r → (q : Refusal) × (place : ℕ) × (read_file image ≡ refused q place) × (refusal_number why ≡ refusal_number q)
+      go : (r : Outcome Meaning) → read_file image ≡ r → (q : Refusal) × (place : ℕ) × (read_file image ≡ refused q place) × (refusal_number why ≡ refusal_number q)
       go (ok m) read = let no = rw read at e in let z : ◌≡◌ {A = ℕ} 0 1 = cc in absurd (omega arith)
       go (refused r place) read =
           let is : ◌≡◌ {A = Answer (ℕ × ℕ)} (refuses (refusal_number why)) (refuses (refusal_number r)) = rw read at e in

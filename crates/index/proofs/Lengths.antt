@@ -12,7 +12,7 @@ use lib.ListN.{length, take, drop, length-drop}
 use lib.Dec.{leb}
 use Rattle.format.specs.declared.Refusal.TheVariants.{EntryPastIndex, KeyLength}
 use Rattle.format.specs.Limits.{key_most}
-use Rattle.format.specs.Refusals.{Result, ok, refused, ◌>>=◌, require}
+use Rattle.format.specs.Refusals.{Outcome, ok, refused, ◌>>=◌, require}
 use Rattle.format.specs.Bytes.{big_endian}
 use Rattle.format.specs.Index.{key_head_size, length_field}
 use Rattle.index.specs.declared.Length.TheVariants.{Bytes}
@@ -69,7 +69,7 @@ length-is at bs len e =
     refl (leb-true 1 (length_field bs)) (leb-true (key_head_size (length_field bs)) (length bs)) len e
 
 -- what the answer says of the reading
-bytes-by : (r : Result ℕ) (len : ℕ) → length_of r ≡ Bytes len → r ≡ ok len
+bytes-by : (r : Outcome ℕ) (len : ℕ) → length_of r ≡ Bytes len → r ≡ ok len
 bytes-by (ok n) len e = cc
 bytes-by (refused r place) len e = cc
 

@@ -16,7 +16,7 @@ use Rattle.format.specs.declared.Kind.{Kind}
 use Rattle.format.specs.declared.Entry.{Entry}
 use Rattle.format.specs.declared.Refusal.{Refusal}
 use Rattle.format.specs.declared.ImagePlace.{ImagePlace}
-use Rattle.format.specs.Refusals.{Result, ok, refused, ◌>>=◌}
+use Rattle.format.specs.Refusals.{Outcome, ok, refused, ◌>>=◌}
 use Rattle.format.specs.Index.{block_span, entry_from, check_entry, read_entries, read_keys}
 use Rattle.index.specs.declared.Cursor.{Cursor}
 use Rattle.index.specs.declared.Skipped.{Skipped}
@@ -41,10 +41,10 @@ module _ (index : List ℕ) (x : ℕ) (c : Cursor) where
   skip-none e = rw e
 
   -- the entries after the first
-  abbrev others : Result (List Entry × ℕ)
+  abbrev others : Outcome (List Entry × ℕ)
   others = entries_left index x (past c (entry_at index c))
 
-  abbrev check : Result (Unit {0})
+  abbrev check : Outcome (Unit {0})
   check = check_entry (block_span c.ended.0 x) (x + c.at.0) (max_of c.before) (entry_at index c)
 
   entries-step : (k : ℕ) → c.left ≡ suc k → entries_left index x c ≡ (check >>= λ _. others >>= λ p. pair (entry_at index c ∷ p.0) p.1)
@@ -53,7 +53,7 @@ module _ (index : List ℕ) (x : ℕ) (c : Cursor) where
       let less : c.left - 1 ≡ k = omega arith in
       rw (less, more, ← add_assoc x c.at.0 28, ← drop-drop 28 c.at.0 index)
 
-  one-by : (a : Result (Unit {0})) (r : Result (List Entry × ℕ)) → entries_left index x (past c (entry_at index c)) ≡ r
+  one-by : (a : Outcome (Unit {0})) (r : Outcome (List Entry × ℕ)) → entries_left index x (past c (entry_at index c)) ≡ r
       → skipped (a >>= λ _. r >>= λ p. pair (entry_at index c ∷ p.0) p.1) ≡ skip_by index x (past c (entry_at index c)) (entry_check_of a)
   unfolding skipped_at
   one-by (ok u) (ok p) e = rw e
@@ -79,7 +79,7 @@ module _ (index : List ℕ) (x : ℕ) (c : Cursor) where
 abbrev Whole : (x : ℕ) → List Entry → List Entry × ℕ → Type 0
 Whole x es p = (p.0 ≡ es) × (p.1 ≤ x)
 
-whole_by : (x ended : ℕ) (e : Entry) (es : List Entry) (a : Result (Unit {0})) (r : Result (List Entry × ℕ)) → EntryFits x ended e a
+whole_by : (x ended : ℕ) (e : Entry) (es : List Entry) (a : Outcome (Unit {0})) (r : Outcome (List Entry × ℕ)) → EntryFits x ended e a
     → (ended + e.size ≤ x → IfRead (Whole x es) r) → IfRead (Whole x (e ∷ es)) (a >>= λ _. r >>= λ p. pair (e ∷ p.0) p.1)
 whole_by x ended e es (ok u) (ok p) f g =
     let h = g (omega (arith, f.within, f.at-end)) in
@@ -119,7 +119,7 @@ module _ (index : List ℕ) (x : ℕ) (c : Cursor) where
       (sym (bind_assoc (read_keys (length (drop (c.at.0 + k) index)) (block_span last.0 x) (x + (c.at.0 + k)) (key_at index c.key) (drop (c.at.0 + k) index))
       keys_only (λ r. pair es r.1)))
 
-  on-by : Sound index x c → (last : ImagePlace) (r : Result (List Entry × ℕ)) → entries_left index x c ≡ r → IfRead (Whole x (entries_at index c)) r
+  on-by : Sound index x c → (last : ImagePlace) (r : Outcome (List Entry × ℕ)) → entries_left index x c ≡ r → IfRead (Whole x (entries_at index c)) r
       → skipped r ≡ Skipped.Ended last → OnEntries index x c (past_entries c last)
   on-by s last (ok p) e w q =
       let same : p.1 ≡ last.0 = cc in
@@ -142,7 +142,7 @@ module _ (index : List ℕ) (x : ℕ) (c : Cursor) where
   refusal_of (Skipped.Ended last) = keys_only []
   refusal_of (Skipped.Refused r place) = refused r place.0
 
-  refused-by : (r : Refusal) (place : ImagePlace) (a : Result (List Entry × ℕ)) → entries_left index x c ≡ a → skipped a ≡ Skipped.Refused r place → rest index x c ≡ refused r place.0
+  refused-by : (r : Refusal) (place : ImagePlace) (a : Outcome (List Entry × ℕ)) → entries_left index x c ≡ a → skipped a ≡ Skipped.Refused r place → rest index x c ≡ refused r place.0
   unfolding rest_from
   refused-by r place (ok p) e q = absurd (let z : ◌≡◌ {A = ℕ} 0 1 = cc in omega arith)
   refused-by r place (refused why at) e q = rw e (ap refusal_of q)

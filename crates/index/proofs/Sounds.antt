@@ -14,7 +14,7 @@ use Rattle.format.specs.declared.Refusal.TheVariants.{BlockPlace}
 use Rattle.format.specs.Limits.{image_most}
 use Rattle.std.specs.Prelude.{if◌then◌else◌}
 use Rattle.format.specs.Choice.{is_empty}
-use Rattle.format.specs.Refusals.{Result, ok, refused}
+use Rattle.format.specs.Refusals.{Outcome, ok, refused}
 use Rattle.format.specs.Index.{block_span, check_entry}
 use Rattle.index.specs.declared.Cursor.{Cursor}
 use Rattle.index.specs.declared.Opened.{Opened}
@@ -35,7 +35,7 @@ module _ (index : List ℕ) (x : ℕ) (c : Cursor) (s : Sound index x c) where
   end-sound true = tt
   end-sound false = tt
 
-  head-sound : (r : Result (ℕ × Kind × ℕ)) → HeadFits (drop c.at.0 index) r → StepSound index x c (step_of (opened c (head_of r)))
+  head-sound : (r : Outcome (ℕ × Kind × ℕ)) → HeadFits (drop c.at.0 index) r → StepSound index x c (step_of (opened c (head_of r)))
   head-sound (ok h) f =
       let room : h.0 + 5 + h.2 * 28 ≤ length index - c.at.0 = simp length-drop at f.0 in
       (record { image = s.image; entries = omega (arith, s.entries); key = omega (arith, s.entries); ended = s.ended }, omega arith, f.1)
@@ -53,7 +53,7 @@ module _ (index : List ℕ) (x : ℕ) (c : Cursor) (s : Sound index x c) where
   unfolding opened_at
   open-sound = open-by-sound (is_empty (drop c.at.0 index))
 
-  checked-sound : 1 ≤ c.left → (r : Result (Unit {0})) → EntryFits x c.ended.0 (entry_at index c) r → StepSound index x c (taken c (entry_at index c) (entry_check_of r))
+  checked-sound : 1 ≤ c.left → (r : Outcome (Unit {0})) → EntryFits x c.ended.0 (entry_at index c) r → StepSound index x c (taken c (entry_at index c) (entry_check_of r))
   checked-sound more (ok u) f =
       (record { image = s.image; entries = omega (arith, s.entries); key = s.key; ended = omega (arith, f.within, f.at-end) }, omega arith, f)
   checked-sound more (refused r place) f = tt

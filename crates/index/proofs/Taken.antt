@@ -9,7 +9,7 @@ use mathlib.Core.List.{List, [], ◌∷◌}
 use native.Mathlib.Omega.{arith}
 use lib.ListN.{length, drop}
 use Rattle.format.specs.declared.Entry.{Entry}
-use Rattle.format.specs.Refusals.{Result, ok, refused, ◌>>=◌}
+use Rattle.format.specs.Refusals.{Outcome, ok, refused, ◌>>=◌}
 use Rattle.format.specs.Index.{block_span, IndexKey, check_entry, read_entries, read_keys}
 use Rattle.format.proofs.Results.{refused-not, ok-path}
 use Rattle.index.specs.declared.Cursor.{Cursor}
@@ -20,7 +20,7 @@ use Rattle.index.proofs.Walks.{step-take}
 use Rattle.index.proofs.Steps.{good-entry, never-refused}
 
 module _ (index : List ℕ) (x : ℕ) (c : Cursor) (s : Sound index x c) (es : List Entry) (ks : List IndexKey) (good : rest index x c ≡ ok (es, ks)) where
-  keys-by : (r : Result (List IndexKey)) → (r >>= keys_only) ≡ ok (es, ks) → es ≡ []
+  keys-by : (r : Outcome (List IndexKey)) → (r >>= keys_only) ≡ ok (es, ks) → es ≡ []
   keys-by (ok keys) e = ap (λ (p : List Entry × List IndexKey). p.0) (sym (ok-path e))
   keys-by (refused r place) e = refused-not e
 
@@ -35,7 +35,7 @@ module _ (index : List ℕ) (x : ℕ) (c : Cursor) (s : Sound index x c) (es : L
   pub none_left : c.left ≡ 0 → es ≡ []
   none_left e = left_by c.left e good
 
-  take_by : (r : Result (Unit {0})) → step_at index x c ≡ taken c (entry_at index c) (entry_check_of r) → step_at index x c ≡ Step.Entry (entry_at index c) (past c (entry_at index c))
+  take_by : (r : Outcome (Unit {0})) → step_at index x c ≡ taken c (entry_at index c) (entry_check_of r) → step_at index x c ≡ Step.Entry (entry_at index c) (past c (entry_at index c))
   take_by (ok u) e = e
   take_by (refused r place) e = absurd (never-refused index x c s es ks good r (record { 0 = place }) e)
 

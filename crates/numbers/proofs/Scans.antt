@@ -7,7 +7,7 @@
 use Rattle.std.proofs.Common.{◌≡◌, ℕ, ◌+◌, ◌-◌, ◌*◌, ◌^◌, ◌<◌, ◌≤◌, true, false, ◌&&◌, eqb, ltb, List, ◌∷◌, length, get_or, drop, sym, refl, ap, ◌∙◌, ⊎_elim, add-one, arith, drop_of_length-le, drop-cons, lt-ltb, eq-eqb, ne_eqb}
 use mathlib.Core.Bool.{and-false, or-true}
 use Rattle.format.specs.declared.Refusal.TheVariants.{BadRoll}
-use Rattle.format.specs.Refusals.{Result, ok, refused}
+use Rattle.format.specs.Refusals.{Outcome, ok, refused}
 use Rattle.format.specs.Varint.{read_groups}
 use Rattle.format.proofs.Cases.{same_or}
 use Rattle.numbers.specs.declared.Varint.TheVariants.{Number, Broken}
@@ -35,7 +35,7 @@ module _ {s : List ℕ} {at value scale groups place : ℕ} (r : Reading s at va
     byte = get_or s place 0
 
     -- the next byte says what is read from here on
-    reads : (answer : Result (ℕ × ℕ × List ℕ)) → read_groups BadRoll groups value place (byte ∷ drop (place + 1) s) ≡ answer → varint_of answer ≡ varint_at s at
+    reads : (answer : Outcome (ℕ × ℕ × List ℕ)) → read_groups BadRoll groups value place (byte ∷ drop (place + 1) s) ≡ answer → varint_of answer ≡ varint_at s at
     reads answer e =
         let next : drop place s ≡ byte ∷ drop (place + 1) s = rw add-one (drop-cons s place 0 h) in
         sym (ap varint_of e) ∙ (rw next at r.same)

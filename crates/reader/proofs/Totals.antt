@@ -12,7 +12,7 @@ use lib.ListN.{length, length-append}
 use Rattle.format.specs.declared.Entry.{Entry}
 use Rattle.format.specs.declared.Refusal.{Refusal}
 use Rattle.format.specs.declared.Checked.{Checked}
-use Rattle.format.specs.Refusals.{Result, ok, refused, ◌>>=◌}
+use Rattle.format.specs.Refusals.{Outcome, ok, refused, ◌>>=◌}
 use Rattle.format.specs.Meaning.{Point, Meaning, key_total, point_total}
 use Rattle.format.specs.Index.{IndexKey}
 use Rattle.format.specs.Block.{read_block}
@@ -20,15 +20,15 @@ use Rattle.format.specs.File.{block_of, read_index, read_blocks, read_series, re
 use Rattle.format.specs.Acts.{check_result, check_answer, checked_says}
 
 -- the totals of the entries of a key and the keys after it
-abbrev pub left : (image : List ℕ) → List Entry → List IndexKey → Result (ℕ × ℕ)
+abbrev pub left : (image : List ℕ) → List Entry → List IndexKey → Outcome (ℕ × ℕ)
 left image es ks = read_blocks image es >>= λ ps. read_series image ks >>= λ m. ok (key_total m, length ps + point_total m)
 
 -- so many keys and points more
-abbrev pub added : (keys points : ℕ) → Result (ℕ × ℕ) → Result (ℕ × ℕ)
+abbrev pub added : (keys points : ℕ) → Outcome (ℕ × ℕ) → Outcome (ℕ × ℕ)
 added keys points (ok t) = ok (keys + t.0, points + t.1)
 added keys points (refused r place) = refused r place
 
-totals : {k l p q : ℕ} → k ≡ l → p ≡ q → ◌≡◌ {A = Result (ℕ × ℕ)} (ok (k, p)) (ok (l, q))
+totals : {k l p q : ℕ} → k ≡ l → p ≡ q → ◌≡◌ {A = Outcome (ℕ × ℕ)} (ok (k, p)) (ok (l, q))
 totals e f = cc
 
 module _ (image : List ℕ) where
@@ -36,7 +36,7 @@ module _ (image : List ℕ) where
   unfolding check_result read_file
   check-refused r place e = rw e
 
-  start-by : (a : Result Meaning) → added 0 0 (a >>= λ m. ok (key_total m, 0 + point_total m)) ≡ (a >>= λ m. ok (key_total m, point_total m))
+  start-by : (a : Outcome Meaning) → added 0 0 (a >>= λ m. ok (key_total m, 0 + point_total m)) ≡ (a >>= λ m. ok (key_total m, point_total m))
   start-by (ok m) = totals (zero-add (key_total m)) (omega arith)
   start-by (refused r place) = refl
 
@@ -45,7 +45,7 @@ module _ (image : List ℕ) where
   left-start ks e = rw e (start-by (read_series image ks))
 
   module _ (keys points : ℕ) where
-    key-by : (k : IndexKey) (a : Result (List Point)) (b : Result Meaning)
+    key-by : (k : IndexKey) (a : Outcome (List Point)) (b : Outcome Meaning)
         → added keys points ((a >>= λ ps. b >>= λ rest. ok (record { key = k.key; kind = k.kind; points = ps } ∷ rest)) >>= λ m. ok (key_total m, 0 + point_total m))
         ≡ added (keys + 1) points (a >>= λ ps. b >>= λ m. ok (key_total m, length ps + point_total m))
     key-by k (ok ps) (ok m) = totals (omega arith) (omega arith)
@@ -56,7 +56,7 @@ module _ (image : List ℕ) where
     unfolding read_blocks read_series
     left_key k ks = key-by k (read_blocks image k.entries) (read_series image ks)
 
-    entry-by : (ps : List Point) (a : Result (List Point)) (b : Result Meaning)
+    entry-by : (ps : List Point) (a : Outcome (List Point)) (b : Outcome Meaning)
         → added keys points ((a >>= λ rest. ok (ps ++ rest)) >>= λ qs. b >>= λ m. ok (key_total m, length qs + point_total m))
         ≡ added keys (points + length ps) (a >>= λ qs. b >>= λ m. ok (key_total m, length qs + point_total m))
     entry-by ps (ok rest) (ok m) = totals refl (omega (arith, length-append ps rest))

@@ -20,7 +20,7 @@ use Rattle.format.specs.declared.Refusal.TheVariants.{Timestamps, Values}
 use Rattle.format.specs.Limits.{read_block_most, exponent_most, time_most}
 use Rattle.format.specs.Choice.{every, is_empty}
 use Rattle.format.specs.Bytes.{big_endian}
-use Rattle.format.specs.Refusals.{Result, ok, refused, ◌>>=◌, require}
+use Rattle.format.specs.Refusals.{Outcome, ok, refused, ◌>>=◌, require}
 use Rattle.format.specs.Signed.{signed}
 use Rattle.format.specs.Varint.{read_varint}
 use Rattle.format.specs.Simple8b.{words_open}
@@ -30,22 +30,22 @@ use Rattle.format.specs.Integers.{read_stored, read_integers}
 use Rattle.format.proofs.Results.{Only, shifted}
 use Rattle.numbers.proofs.VarintPlaces.{moved, Placed, read_varint-moved, read_varint-placed}
 
-abbrev pub RefusedAs : {A : Type 0} → Refusal → (most : ℕ) → Result A → Type 0
+abbrev pub RefusedAs : {A : Type 0} → Refusal → (most : ℕ) → Outcome A → Type 0
 RefusedAs r most (ok a) = Unit {0}
 RefusedAs r most (refused q place) = (q ≡ r) × (place ≤ most)
 
-pub record Stands {A : Type 0} (r : Refusal) (d most : ℕ) (a b : Result A) : Type 0 where
+pub record Stands {A : Type 0} (r : Refusal) (d most : ℕ) (a b : Outcome A) : Type 0 where
   pub refusal : RefusedAs r most a
   pub moves : b ≡ shifted d a
 
-pub only-stands : {A : Type 0} {r : Refusal} {d most : ℕ} {a b : Result A} → Stands r d most a b → Only r a
+pub only-stands : {A : Type 0} {r : Refusal} {d most : ℕ} {a b : Outcome A} → Stands r d most a b → Only r a
 only-stands {a = ok x} h = tt
 only-stands {a = refused q place} h = h.refusal.0
 
 -- ---- steps of a reader
 
 module _ {A B : Type 0} {r : Refusal} {d most : ℕ} where
-  pub bind-stands : {a b : Result A} {f g : A → Result B} → Stands r d most a b → ((x : A) → Stands r d most (f x) (g x)) → Stands r d most (a >>= f) (b >>= g)
+  pub bind-stands : {a b : Outcome A} {f g : A → Outcome B} → Stands r d most a b → ((x : A) → Stands r d most (f x) (g x)) → Stands r d most (a >>= f) (b >>= g)
   bind-stands {a = ok x} h k = rw h.moves (k x)
   bind-stands {a = refused q place} h k = rw h.moves (record { refusal = h.refusal; moves = refl })
 
@@ -53,12 +53,12 @@ module _ {B : Type 0} {r : Refusal} {d most : ℕ} where
   pub ok-stands : {b : B} → Stands r d most (ok b) (ok b)
   ok-stands = record { refusal = tt; moves = refl }
 
-  pub require-stands : (t : Bool) (place : ℕ) (f g : Unit {0} → Result B) → place ≤ most → (t ≡ true → Stands r d most (f tt) (g tt))
+  pub require-stands : (t : Bool) (place : ℕ) (f g : Unit {0} → Outcome B) → place ≤ most → (t ≡ true → Stands r d most (f tt) (g tt))
       → Stands r d most (require t r place >>= f) (require t r (place + d) >>= g)
   require-stands true place f g h k = k refl
   require-stands false place f g h k = record { refusal = (refl, h); moves = refl }
 
-  varint-by : (at : ℕ) (bs : List ℕ) (a : Result (ℕ × ℕ × List ℕ)) (f g : ℕ × ℕ × List ℕ → Result B) → Placed at bs a → at + length bs ≤ most
+  varint-by : (at : ℕ) (bs : List ℕ) (a : Outcome (ℕ × ℕ × List ℕ)) (f g : ℕ × ℕ × List ℕ → Outcome B) → Placed at bs a → at + length bs ≤ most
       → ((v next : ℕ) (rest : List ℕ) → next + length rest ≤ most → Stands r d most (f (v, next, rest)) (g (v, next + d, rest)))
       → Stands r d most (moved r 0 a >>= f) (moved r d a >>= g)
   varint-by at bs (ok v) f g h within k =
@@ -67,13 +67,13 @@ module _ {B : Type 0} {r : Refusal} {d most : ℕ} where
       rw add-zero (k v.0 v.1 v.2 (omega (arith, h.1)))
   varint-by at bs (refused q place) f g h within k = rw add-zero (record { refusal = (refl, omega (arith, h.1)); moves = refl })
 
-  pub varint-stands : (at : ℕ) (bs : List ℕ) (f g : ℕ × ℕ × List ℕ → Result B) → at + length bs ≤ most
+  pub varint-stands : (at : ℕ) (bs : List ℕ) (f g : ℕ × ℕ × List ℕ → Outcome B) → at + length bs ≤ most
       → ((v next : ℕ) (rest : List ℕ) → next + length rest ≤ most → Stands r d most (f (v, next, rest)) (g (v, next + d, rest)))
       → Stands r d most (read_varint r at bs >>= f) (read_varint r (at + d) bs >>= g)
   varint-stands at bs f g within k =
       let same : moved r 0 (read_varint r at bs) ≡ read_varint r at bs = sym (rw (add-zero at) at (read_varint-moved r r 0 at bs)) in
       rw (read_varint-moved r r d at bs)
-      (subst (λ (a : Result (ℕ × ℕ × List ℕ)). Stands r d most (a >>= f) (moved r d (read_varint r at bs) >>= g)) same
+      (subst (λ (a : Outcome (ℕ × ℕ × List ℕ)). Stands r d most (a >>= f) (moved r d (read_varint r at bs) >>= g)) same
       (varint-by at bs (read_varint r at bs) f g (read_varint-placed r at bs) within k))
 
 -- ---- timestamps

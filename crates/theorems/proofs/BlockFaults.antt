@@ -11,7 +11,7 @@ use lib.Dec.{leb, ltb, eqb, lit<}
 use borrow.Author.Tests.{ltb-true, lt-ltb, eqb-true, eq-eqb}
 use Rattle.format.specs.declared.Entry.{Entry}
 use Rattle.format.specs.declared.Refusal.TheVariants.{Checksum, BlockHead, Timestamps, Values, TimesDiffer}
-use Rattle.format.specs.Refusals.{Result, ok, refused, ◌>>=◌, require}
+use Rattle.format.specs.Refusals.{Outcome, ok, refused, ◌>>=◌, require}
 use Rattle.format.specs.Bytes.{big_endian, AllBytes}
 use Rattle.format.specs.Signed.{same_time}
 use Rattle.format.specs.Varint.{read_varint, varint}
@@ -47,7 +47,7 @@ byte-exactly a b = (λ t. ap (λ (x : ℕ). x ∷ []) (eqb-true a b t), λ p. eq
 
 module _ (e : Entry) (place : ℕ) where
   -- the first and the last time against the entry
-  abbrev ends : List Point → Result (List Point)
+  abbrev ends : List Point → Outcome (List Point)
   ends points = require (same_time (first_time points) e.min && same_time (last_time points) e.max) TimesDiffer place >>= λ _. ok points
 
   ends-exactly : (times : List ℤ) (values : List ℕ) → Exact (ends (points_from times values)) (EndsFault e times values)

@@ -14,7 +14,7 @@ use Rattle.format.specs.declared.Entry.{Entry}
 use Rattle.format.specs.declared.Refusal.TheVariants.{NoSuchKey, NoEntry, ShortBuffer, BadRoll, KindClash, ImageTooLong, NoPoint}
 use Rattle.format.specs.Limits.{image_most}
 use Rattle.format.specs.Choice.{same_list, Each}
-use Rattle.format.specs.Refusals.{Result, ok, refused, ◌>>=◌, require, refuses, answer_of}
+use Rattle.format.specs.Refusals.{Outcome, ok, refused, ◌>>=◌, require, refuses, answer_of}
 use Rattle.format.specs.Bytes.{AllBytes}
 use Rattle.format.specs.Meaning.{Point, Meaning, value_at}
 use Rattle.format.specs.WellFormed.{well_formed}
@@ -76,7 +76,7 @@ only-covering t [] = refl
 only-covering t (e ∷ es) = only-choice NoEntry (covers e t) (ok e) (covering_entry t es) tt (only-covering t es)
 
 -- find in a good index is refused as 17 or 18
-numbers : (t : ℤ) (a : Result (List Entry)) → Only NoSuchKey a → (n : ℕ) → Refuses (a >>= λ es. covering_entry t es) n → (n ≡ 17) ⊎ (n ≡ 18)
+numbers : (t : ℤ) (a : Outcome (List Entry)) → Only NoSuchKey a → (n : ℕ) → Refuses (a >>= λ es. covering_entry t es) n → (n ≡ 17) ⊎ (n ≡ 18)
 numbers t (ok es) h n e = inr (only-number NoEntry (covering_entry t es) (only-covering t es) n e)
 numbers t (refused r place) h n e = inl (only-number {A = Entry} NoSuchKey (refused r place) h n e)
 
@@ -133,7 +133,7 @@ module _ (image key : List ℕ) (t : ℤ) (all : AllBytes image) where
       )
 
 -- the block of an entry, and what follows with its points
-one_block : {B : Type 0} (image key : List ℕ) (t : ℤ) (g : Entry × List Point → Result B) (later : List Point → ℕ → Type 0) → AllBytes image
+one_block : {B : Type 0} (image key : List ℕ) (t : ℤ) (g : Entry × List Point → Outcome B) (later : List Point → ℕ → Type 0) → AllBytes image
     → ((e : Entry) (ps : List Point) → Exact (g (e, ps)) (later ps)) → Exact (find_block image key t >>= g) (OneBlockFault image key t later)
 unfolding find_block
 one_block image key t g later all k =
@@ -195,7 +195,7 @@ unroll-exactly image buffer all =
 
 -- two meanings in order: a key has two kinds, or our writer's image of their merge is left
 module _ (o n : Meaning) (p : well_formed o ≡ true) (q : well_formed n ≡ true) (buffer : List ℕ) (k : ℕ) where
-  abbrev result : Result (List ℕ)
+  abbrev result : Outcome (List ℕ)
   result = require (not (kinds_clash o n)) KindClash 0 >>= λ _. image_result (merge o n) buffer
 
   two : (kinds_clash o n ≡ true) ↔ TwoKinds o n

@@ -14,7 +14,7 @@ use Rattle.format.specs.declared.Entry.{Entry}
 use Rattle.format.specs.declared.Refusal.TheVariants.{ImageLength, Magic, Version, IndexStart, EntryPastIndex, KeyLength, UnknownKind, NoBlocks, KeyOrder, TimeOrder, BlockPlace}
 use Rattle.format.specs.Limits.{image_least, image_most, header_size, key_most}
 use Rattle.format.specs.Choice.{same_list}
-use Rattle.format.specs.Refusals.{Result, ok, ◌>>=◌}
+use Rattle.format.specs.Refusals.{Outcome, ok, ◌>>=◌}
 use Rattle.format.specs.Kinds.{read_kind}
 use Rattle.format.specs.KeyOrder.{key_fits, key_before}
 use Rattle.format.specs.Index.{BlockSpan, block_span, span_after, entry_size, key_head_size, length_field, key_field, kind_field, count_field, entry_from, above_max, check_entry, read_entries, read_key, key_extent, no_keys, read_keys}
@@ -37,7 +37,7 @@ same t = (λ e. e, λ e. e)
 flat : {T P Q R : Type 0} → T ↔ ((P × Q) × R) → T ↔ (P × Q × R)
 flat h = (λ t. let x = h.0 t in (x.0.0, x.0.1, x.1), λ (p, q, r). h.1 ((p, q), r))
 
-frame-exactly : {B : Type 0} (image : List ℕ) (g : Unit {0} → Result B) {later : ℕ → Type 0} → Exact (g tt) later
+frame-exactly : {B : Type 0} (image : List ℕ) (g : Unit {0} → Outcome B) {later : ℕ → Type 0} → Exact (g tt) later
     → Exact (check_frame image >>= g) (FrameFault image later)
 unfolding check_frame
 frame-exactly image g k =
@@ -51,7 +51,7 @@ frame-exactly image g k =
 
 -- ---- the index
 
-entry-exactly : {B : Type 0} (blocks : BlockSpan) (at : ℕ) (before : Option ℤ) (e : Entry) (g : Unit {0} → Result B) {later : ℕ → Type 0} → Exact (g tt) later
+entry-exactly : {B : Type 0} (blocks : BlockSpan) (at : ℕ) (before : Option ℤ) (e : Entry) (g : Unit {0} → Outcome B) {later : ℕ → Type 0} → Exact (g tt) later
     → Exact (check_entry blocks at before e >>= g) (EntryFault blocks before e later)
 unfolding check_entry
 entry-exactly blocks at before e g k =

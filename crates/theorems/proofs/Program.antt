@@ -11,7 +11,7 @@ use lib.Dec.{lit<}
 use borrow.Author.Tests.{le-leb, lt-leb, lt-ltb, le-ltb}
 use Rattle.format.specs.declared.Refusal.TheVariants.{BadRoll}
 use Rattle.format.specs.Limits.{image_most, program_buffer}
-use Rattle.format.specs.Refusals.{Result, ok, refused}
+use Rattle.format.specs.Refusals.{Outcome, ok, refused}
 use Rattle.format.specs.Bytes.{AllBytes}
 use Rattle.format.specs.Meaning.{Meaning}
 use Rattle.format.specs.Roll.{read_roll}
@@ -25,7 +25,7 @@ use Rattle.roll.proofs.Rolls.{roll-refused}
 use Rattle.theorems.specs.Files.{Accepted, OurFile, UnrollGives}
 use Rattle.theorems.specs.Program.{line19, line20, line22, Tried, Program}
 use Rattle.theorems.proofs.Ours.{roll-reads, reads-roll, ours-accepted}
-use Rattle.theorems.proofs.Writes.{Outcome, long, short, given, outcome}
+use Rattle.theorems.proofs.Writes.{Writing, long, short, given, writing}
 use Rattle.theorems.proofs.RoundTrips.{round-trips}
 
 -- the buffer that the image is laid into
@@ -76,12 +76,12 @@ data Said (roll : List ℕ) (m : Meaning) : Type 0 where
   written : length (writer_image m) ≤ program_buffer → program_output roll ≡ writer_image m → Said roll m
 
 said : (roll : List ℕ) (m : Meaning) → length roll ≤ program_buffer → read_roll roll ≡ ok m → Said roll m
-said roll m h e = go (outcome m lent)
+said roll m h e = go (writing m lent)
   where
     room : length lent ≡ program_buffer
     room = length-replicate {A = ℕ} program_buffer 0
 
-    out : {r : Result (List ℕ)} → image_result m lent ≡ r → program_output roll ≡ program_writes r
+    out : {r : Outcome (List ℕ)} → image_result m lent ≡ r → program_output roll ≡ program_writes r
     out f = good-output roll m h e ∙ ap program_writes f
 
     go : Outcome m lent → Said roll m
@@ -156,7 +156,7 @@ broken roll bytes h = (
     to m (no_room over f) e = differ {xs = line19} {ys = line20} 0 (λ z. omega arith) (sym f ∙ e)
     to m (written fits f) e = image-not m line20 (omega arith) (sym f ∙ e)
 
-    from : (r : Result Meaning) → read_roll roll ≡ r → Only BadRoll r → ((m : Meaning) → ¬ KeepsRoll roll m) → program_output roll ≡ line20
+    from : (r : Outcome Meaning) → read_roll roll ≡ r → Only BadRoll r → ((m : Meaning) → ¬ KeepsRoll roll m) → program_output roll ≡ line20
     from (ok m) e f none = absurd (none m (reads-roll roll m bytes e).keeps)
     from (refused r place) e f none = refused-roll roll place h (e ∙ ap (λ q. refused q place) f)
 
@@ -172,7 +172,7 @@ never22 roll bytes e = ⊎_elim longer heard (below_or program_buffer (length ro
     good m t (no_room over f) = differ {xs = line19} {ys = line22} 0 (λ z. omega arith) (sym f ∙ e)
     good m t (written fits f) = image-not m line22 (omega arith) (sym f ∙ e)
 
-    read : length roll ≤ program_buffer → (r : Result Meaning) → read_roll roll ≡ r → Only BadRoll r → ⊥
+    read : length roll ≤ program_buffer → (r : Outcome Meaning) → read_roll roll ≡ r → Only BadRoll r → ⊥
     read h (ok m) g f = good m (record { good = reads-roll roll m bytes g; heard = h }) (said roll m h g)
     read h (refused r place) g f =
         differ {xs = line20} {ys = line22} 1 (λ z. omega arith) (sym (refused-roll roll place h (g ∙ ap (λ q. refused q place) f)) ∙ e)

@@ -11,7 +11,7 @@ use lib.ListN.{length}
 use lib.IntN.{ℤ}
 use Rattle.format.specs.declared.Entry.{Entry}
 use Rattle.format.specs.declared.Refusal.{Refusal}
-use Rattle.format.specs.Refusals.{Result, ok, refused, ◌>>=◌, refuses, answer_of}
+use Rattle.format.specs.Refusals.{Outcome, ok, refused, ◌>>=◌, refuses, answer_of}
 use Rattle.format.specs.Signed.{signed}
 use Rattle.format.specs.Meaning.{Point, value_at}
 use Rattle.format.specs.Block.{read_block}
@@ -48,7 +48,7 @@ follows image key t number h =
 -- ---- the value at an exact time
 
 -- a value that is found, with the entry
-abbrev pub answer_at : Entry → Option ℕ → Result (Entry × ℤ)
+abbrev pub answer_at : Entry → Option ℕ → Outcome (Entry × ℤ)
 answer_at e x = value_there x >>= λ v. ok (e, signed v)
 
 -- read block, by its points

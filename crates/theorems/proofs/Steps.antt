@@ -15,16 +15,16 @@ use native.Mathlib.Omega.{arith}
 use lib.Dec.{leb, eqb}
 use borrow.Author.Tests.{leb-true, le-leb, eqb-true, eq-eqb}
 use Rattle.format.specs.declared.Refusal.{Refusal}
-use Rattle.format.specs.Refusals.{Result, ok, refused, ◌>>=◌, require, refuses, refusal_number, answer_of}
+use Rattle.format.specs.Refusals.{Outcome, ok, refused, ◌>>=◌, require, refuses, refusal_number, answer_of}
 use Rattle.format.proofs.Answers.{refuses-path}
 use Rattle.format.proofs.Results.{refused-not, ok-path, Only}
 use Rattle.format.proofs.Tests.{and-true}
 use Rattle.theorems.specs.Faults.{Unless, UnlessSome, Nothing}
 
-abbrev pub Refuses : {A : Type 0} → Result A → ℕ → Type 0
+abbrev pub Refuses : {A : Type 0} → Outcome A → ℕ → Type 0
 Refuses r n = answer_of r ≡ refuses n
 
-abbrev pub Exact : {A : Type 0} → Result A → (ℕ → Type 0) → Type 0
+abbrev pub Exact : {A : Type 0} → Outcome A → (ℕ → Type 0) → Type 0
 Exact r F = (n : ℕ) → Refuses r n ↔ F n
 
 -- a value is not refused
@@ -53,7 +53,7 @@ both-exactly {a} {b} p q =
 
 module _ {B : Type 0} (q : Refusal) (place : ℕ) (kept : Type 0) (later : ℕ → Type 0) where
   -- a result that a test refuses, or that goes on
-  pub tested : (t : Bool) (r : Result B) → (t ≡ true) ↔ kept → (t ≡ true → Exact r later) → (t ≡ false → r ≡ refused q place)
+  pub tested : (t : Bool) (r : Outcome B) → (t ≡ true) ↔ kept → (t ≡ true → Exact r later) → (t ≡ false → r ≡ refused q place)
       → Exact r (Unless kept (refusal_number q) later)
   tested true r h go stop n =
       let y = h.0 refl in (
@@ -67,18 +67,18 @@ module _ {B : Type 0} (q : Refusal) (place : ℕ) (kept : Type 0) (later : ℕ �
       )
 
 module _ {B : Type 0} (q : Refusal) (place : ℕ) {kept : Type 0} {later : ℕ → Type 0} where
-  pub require-exactly : (t : Bool) (f : Unit {0} → Result B) → (t ≡ true) ↔ kept → Exact (f tt) later
+  pub require-exactly : (t : Bool) (f : Unit {0} → Outcome B) → (t ≡ true) ↔ kept → Exact (f tt) later
       → Exact (require t q place >>= f) (Unless kept (refusal_number q) later)
   require-exactly t f h k = tested q place kept later t (require t q place >>= f) h (λ e. rw e k) (λ e. rw e)
 
   -- a test within a step
-  pub require-exactly₂ : {C : Type 0} (t : Bool) (f : Unit {0} → Result C) (g : C → Result B) → (t ≡ true) ↔ kept → Exact (f tt >>= g) later
+  pub require-exactly₂ : {C : Type 0} (t : Bool) (f : Unit {0} → Outcome C) (g : C → Outcome B) → (t ≡ true) ↔ kept → Exact (f tt >>= g) later
       → Exact ((require t q place >>= f) >>= g) (Unless kept (refusal_number q) later)
   require-exactly₂ t f g h k = tested q place kept later t ((require t q place >>= f) >>= g) h (λ e. rw e k) (λ e. rw e)
 
 -- a step that is refused as q alone, and otherwise gives an x, of which the rule is kept by `part x`
 module _ {A B C : Type 0} (q : Refusal) (part : A → B) (Keeps : B → Type 0) (later : B → ℕ → Type 0) where
-  pub some-exactly : (a : Result A) (f : A → Result C) → Only q a
+  pub some-exactly : (a : Outcome A) (f : A → Outcome C) → Only q a
       → ((x : A) → a ≡ ok x → Keeps (part x))
       → ((b : B) → Keeps b → (x : A) × (a ≡ ok x) × (part x ≡ b))
       → ((x : A) → a ≡ ok x → Exact (f x) (later (part x)))
@@ -98,7 +98,7 @@ module _ {A B C : Type 0} (q : Refusal) (part : A → B) (Keeps : B → Type 0) 
 
 module _ {A B : Type 0} where
   -- a step, or where it gave an x, as a relation says, what follows
-  pub given-exactly : (F : ℕ → Type 0) (Given : A → Type 0) (G : A → ℕ → Type 0) (a : Result A) (f : A → Result B) → Exact a F
+  pub given-exactly : (F : ℕ → Type 0) (Given : A → Type 0) (G : A → ℕ → Type 0) (a : Outcome A) (f : A → Outcome B) → Exact a F
       → ((x : A) → Given x ↔ (a ≡ ok x)) → ((x : A) → a ≡ ok x → Exact (f x) (G x)) → Exact (a >>= f) (λ n. F n ⊎ ((x : A) × Given x × G x n))
   given-exactly F Given G (ok x) f h is k n = (
     λ e. inr (x, (is x).1 refl, (k x refl n).0 e),
@@ -110,7 +110,7 @@ module _ {A B : Type 0} where
   )
 
   -- a step, or where it has no fault, what follows
-  pub then-exactly : (F G : ℕ → Type 0) (a : Result A) (f : A → Result B) → Exact a F → ((x : A) → a ≡ ok x → Exact (f x) G)
+  pub then-exactly : (F G : ℕ → Type 0) (a : Outcome A) (f : A → Outcome B) → Exact a F → ((x : A) → a ≡ ok x → Exact (f x) G)
       → Exact (a >>= f) (λ n. F n ⊎ (((j : ℕ) → ¬ F j) × G n))
   then-exactly F G (ok x) f h k n = (
     λ e. inr (λ j y. ok-not ((h j).1 y), (k x refl n).0 e),
@@ -121,17 +121,17 @@ module _ {A B : Type 0} where
     ⊎_elim (λ y. ap refuses (refuses-path ((h n).1 y))) (λ (none, g). absurd (none (refusal_number r) ((h (refusal_number r)).0 refl))),
   )
 
-  pub after : (a : Result A) (g : A → B) {F : ℕ → Type 0} → Exact a F → Exact (a >>= λ x. ok (g x)) F
+  pub after : (a : Outcome A) (g : A → B) {F : ℕ → Type 0} → Exact a F → Exact (a >>= λ x. ok (g x)) F
   after (ok x) g h n = (λ e. ok-not e, λ f. ok-not ((h n).1 f))
   after (refused r place) g h n = (λ e. (h n).0 (ap refuses (refuses-path e)), λ f. ap refuses (refuses-path ((h n).1 f)))
 
 module _ {A B C : Type 0} where
   -- a step within a step
-  pub within : (a : Result A) (f : A → Result B) (g : B → Result C) {F : ℕ → Type 0} → Exact (a >>= λ x. f x >>= g) F → Exact ((a >>= f) >>= g) F
+  pub within : (a : Outcome A) (f : A → Outcome B) (g : B → Outcome C) {F : ℕ → Type 0} → Exact (a >>= λ x. f x >>= g) F → Exact ((a >>= f) >>= g) F
   within (ok x) f g h = h
   within (refused r place) f g h = h
 
 -- the number of a refusal
-pub only-number : {A : Type 0} (q : Refusal) (r : Result A) → Only q r → (n : ℕ) → Refuses r n → n ≡ refusal_number q
+pub only-number : {A : Type 0} (q : Refusal) (r : Outcome A) → Only q r → (n : ℕ) → Refuses r n → n ≡ refusal_number q
 only-number q (ok a) h n e = ok-not e
 only-number q (refused r place) h n e = sym (refuses-path e) ∙ ap refusal_number h

@@ -10,7 +10,7 @@ use Rattle.format.specs.declared.Entry.{Entry}
 use Rattle.format.specs.declared.Refusal.TheVariants.{Checksum, TimesDiffer}
 use Rattle.format.specs.Bytes.{big_endian}
 use Rattle.format.specs.Crc32.{crc32}
-use Rattle.format.specs.Refusals.{Result}
+use Rattle.format.specs.Refusals.{Outcome}
 use Rattle.format.specs.Signed.{same_time}
 use Rattle.format.specs.Meaning.{Point}
 use Rattle.format.specs.Block.{read_body, first_time, last_time}
@@ -34,7 +34,7 @@ returns-then-read_u32-checksum c =
     record { answer = h.0; cells = h.1 }
 
 -- the body is read
-abbrev body : Entry → List ℕ → Result (List Point)
+abbrev body : Entry → List ℕ → Outcome (List Point)
 body entry block = read_body entry.kind (entry.offset.0 + 4) (drop 4 block)
 
 sum : (c : After-read_body-points) → big_endian (take 4 c.args.block.now) ≡ crc32 (drop 4 c.args.block.now)

@@ -5,7 +5,7 @@ use mathlib.Core.List.{List}
 use native.Mathlib.Omega.{arith}
 use lib.ListN.{drop}
 use Rattle.format.specs.declared.Entry.{Entry}
-use Rattle.format.specs.Refusals.{Result}
+use Rattle.format.specs.Refusals.{Outcome}
 use Rattle.format.specs.Meaning.{Point}
 use Rattle.format.specs.Block.{read_sections, read_block}
 use Rattle.block.specs.Answers.{block_answer, PointsLaid}
@@ -45,5 +45,5 @@ returns c =
     let r = (goal.at.returns c).After-read_sections-points in
     let new = c.read_sections-points.new in record {
       count = sym c.in-Count.is ∙ answer r;
-      cells = subst (λ (a : Result (List Point)). PointsLaid a c.args.times.now new.times c.args.values.now new.values) (whole r) c.read_sections-points.ensures.cells;
+      cells = subst (λ (a : Outcome (List Point)). PointsLaid a c.args.times.now new.times c.args.values.now new.values) (whole r) c.read_sections-points.ensures.cells;
     }

@@ -8,7 +8,7 @@ use mathlib.Core.List.{List}
 use lib.ListN.{length, take, drop, get_or, length-drop}
 use Rattle.std.specs.Prelude.{if◌then◌else◌}
 use Rattle.format.specs.Choice.{every}
-use Rattle.format.specs.Refusals.{Result, ok, refused}
+use Rattle.format.specs.Refusals.{Outcome, ok, refused}
 use Rattle.format.specs.declared.Refusal.TheVariants.{Values}
 use Rattle.format.specs.Booleans.{bits_of_bytes, bitmap_size, read_booleans}
 use Rattle.numbers.specs.declared.Varint.TheVariants.{Number}
@@ -22,7 +22,7 @@ module _ (n count next : ℕ) (s : List ℕ) (fits : (i : ℕ) → get_or s i 0 
   inside : next ≤ length s
   inside = (varint_at-number s 1 some count next fits number).1
 
-  after : (r : Result (List ℕ)) → counted n 0 (count, next, drop next s) ≡ r → read_booleans n 0 s ≡ r
+  after : (r : Outcome (List ℕ)) → counted n 0 (count, next, drop next s) ≡ r → read_booleans n 0 s ≡ r
   after r e = read_number n s count next some head number ∙ e
 
   other-size : count ≡ n → (length s - next ≡ bitmap_size n → ⊥) → read_booleans n 0 s ≡ refused Values 0

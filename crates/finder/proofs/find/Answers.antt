@@ -9,7 +9,7 @@ use mir.ValLaws.{to_z-of_z}
 use Rattle.format.specs.declared.Entry.{Entry}
 use Rattle.format.specs.declared.Refusal.{Refusal}
 use Rattle.format.specs.declared.Found.{Found}
-use Rattle.format.specs.Refusals.{Result, answer_of}
+use Rattle.format.specs.Refusals.{Outcome, answer_of}
 use Rattle.format.specs.Index.{IndexKey}
 use Rattle.format.specs.Acts.{found_says}
 use Rattle.index.specs.Cursors.{first_cursor, rest}
@@ -46,5 +46,5 @@ returns c =
     let time = to_z-of_z w64 c.args.time c.ranges.time in
     rw c.index_part.ensures at c.search_index.ensures
     ∙ ap (λ (z : ℤ). answer_of (search_from c.args.key.now z (rest (index_part c.args.image.now start.0) start.0 first_cursor))) time
-    ∙ ap (λ (r : Result (List Entry × List IndexKey)). answer_of (search_from c.args.key.now c.args.time r)) (index-rest c.args.image.now start (starts (goal.at.returns c).In-IndexAt))
+    ∙ ap (λ (r : Outcome (List Entry × List IndexKey)). answer_of (search_from c.args.key.now c.args.time r)) (index-rest c.args.image.now start (starts (goal.at.returns c).In-IndexAt))
     ∙ ap answer_of (search-whole c.args.key.now c.args.time c.args.image.now)

@@ -3,7 +3,7 @@ use Prim.Native.Nat.{ℕ}
 use mathlib.Core.Path.{◌≡◌, ap, sym, ◌∙◌}
 use mathlib.Core.Bool.{true}
 use mathlib.Core.List.{List}
-use Rattle.format.specs.Refusals.{Result, answer_of}
+use Rattle.format.specs.Refusals.{Outcome, answer_of}
 use Rattle.format.specs.File.{accepted}
 use Rattle.format.specs.Acts.{laid, sized}
 use Rattle.format.proofs.Answers.{checked-accepted}
@@ -50,4 +50,4 @@ returns c =
     let at = goal.at.returns c in
     let same = merge-fits a.older.now a.newer.now a.out.now (older-good at.In_default) (newer-good at.In_default-second) (sym c.kinds_clash.ensures ∙ c.if-kinds_clash.false) in
     let e = c.merge_checked.ensures in
-    record { answer = e.answer ∙ ap (λ (r : Result (List ℕ)). answer_of (sized r)) same; laid = e.cells ∙ ap (λ (r : Result (List ℕ)). laid r a.out.now) same }
+    record { answer = e.answer ∙ ap (λ (r : Outcome (List ℕ)). answer_of (sized r)) same; laid = e.cells ∙ ap (λ (r : Outcome (List ℕ)). laid r a.out.now) same }

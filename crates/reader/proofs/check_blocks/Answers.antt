@@ -4,7 +4,7 @@ use mathlib.Core.Path.{◌≡◌, refl, ap, sym, subst, ◌∙◌}
 use mathlib.Core.Bool.{Bool}
 use mathlib.Core.List.{List}
 use native.Mathlib.Omega.{arith}
-use Rattle.format.specs.Refusals.{Result, answer_of}
+use Rattle.format.specs.Refusals.{Outcome, answer_of}
 use Rattle.format.specs.Block.{read_block}
 use Rattle.format.specs.File.{block_of}
 use Rattle.index.specs.declared.Cursor.{Cursor}
@@ -112,4 +112,4 @@ pub shape_of-patterns-in-Refused : goal.shape_of-patterns-in-Refused
 shape_of-patterns-in-Refused c = c.loop-on.invariant.2
 
 pub returns-in-Refused : goal.returns-in-Refused
-returns-in-Refused c = ap (λ (t : Bool × Result (ℕ × ℕ)). answer_of t.1) (stepped (goal.at.returns-in-Refused c).After-next _ c.in-Refused.is)
+returns-in-Refused c = ap (λ (t : Bool × Outcome (ℕ × ℕ)). answer_of t.1) (stepped (goal.at.returns-in-Refused c).After-next _ c.in-Refused.is)

@@ -8,7 +8,7 @@ use lib.Dec.{lit<}
 use lib.ListN.{length, replicate}
 use Rattle.format.specs.Bytes.{AllBytes}
 use Rattle.format.specs.declared.Refusal.TheVariants.{Timestamps}
-use Rattle.format.specs.Refusals.{Result, ◌>>=◌}
+use Rattle.format.specs.Refusals.{Outcome, ◌>>=◌}
 use Rattle.format.specs.Signed.{signed}
 use Rattle.format.specs.Timestamps.{times_of}
 use Rattle.numbers.specs.declared.Varint.TheVariants as varints
@@ -104,6 +104,6 @@ returns c =
     let first = sym c.in-Number.ensures in
     let found = found-repeated a.e s c.requires.0 _ _ first (omega (arith, c.if-value-eq0.false)) (first-within s c.requires.0 (λ i. (c.type_inv.section i).fits) c.in-Number.value c.in-Number.next first) _ _ (sym c.in-Number-number.ensures)
     c.if-n-lt2.false c.if-n-gt-TIMES_MOST.false (omega (arith, c.if-end-section.false)) in
-    let same = ap (λ (f : Result (List ℕ)). f >>= times_of 0 t) found
+    let same = ap (λ (f : Outcome (List ℕ)). f >>= times_of 0 t) found
     ∙ ap (λ (x : ℕ). times_of 0 t (replicate (c.in-Number-number.n - 1) (c.in-Number.value * x))) (sym c.power_of_ten.ensures) in
     rw same c.repeat_difference.ensures
