@@ -1,7 +1,8 @@
 -- Points in the fill and points to come, as lists.
 --   every-right, ascends-right   the last part of what passes
+--   points-within                no more points than times or values
 --   fill-ascends, fill-of-kind   what a block asks of times and values in two arrays
-use Prim.Native.Nat.{ℕ, zero, suc, ◌<◌}
+use Prim.Native.Nat.{ℕ, zero, suc, ◌≤◌, ◌<◌}
 use mathlib.Core.Path.{◌≡◌, refl}
 use mathlib.Core.Bool.{Bool, true, ◌&&◌}
 use mathlib.Core.List.{List, [], ◌∷◌, ◌++◌}
@@ -36,7 +37,12 @@ module _ {A : Type 0} (before : A → A → Bool) where
   ascends-right (x ∷ xs) [] e = refl
   ascends-right (x ∷ xs) (y ∷ ys) e = from-right x y xs ys e
 
--- ---- the times in the fill
+-- ---- the times and values in the fill
+
+pub points-within : (ts : List ℤ) (vs : List ℕ) → (length (points_from ts vs) ≤ length ts) × (length (points_from ts vs) ≤ length vs)
+points-within [] vs = (omega arith, omega arith)
+points-within (t ∷ ts) [] = (omega arith, omega arith)
+points-within (t ∷ ts) (v ∷ vs) = let (a, b) = points-within ts vs in (omega (arith, a), omega (arith, b))
 
 times-up : (u : Point) (ts : List ℤ) (vs : List ℕ) (ps : List Point) → length ts ≡ length vs
     → ascends_from point_before u (points_from ts vs ++ ps) ≡ true → ascends_from lt_z u.time ts ≡ true

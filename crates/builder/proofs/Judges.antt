@@ -12,11 +12,8 @@ use native.Mathlib.Omega.{arith}
 use lib.Dec.{ltb}
 use lib.ListN.{length}
 use borrow.Author.Tests.{lt-ltb, le-ltb, lt-leb, le-leb, ltb-false}
-use Rattle.format.specs.declared.ImagePlace.{ImagePlace}
-use Rattle.format.specs.declared.IndexPlace.{IndexPlace}
 use Rattle.format.specs.declared.Refusal.{Refusal}
 use Rattle.format.specs.declared.Refusal.TheVariants.{ShortBuffer, ImageTooLong}
-use Rattle.format.specs.declared.Written.{Written}
 use Rattle.format.specs.Limits.{image_most}
 use Rattle.format.specs.Bytes.{overwrite}
 use Rattle.format.specs.Refusals.{Outcome, refused, answer_of}
@@ -25,47 +22,49 @@ use Rattle.format.specs.Writer.{writer_image}
 use Rattle.format.specs.Acts.{laid, image_result, written_says, sized}
 use Rattle.format.proofs.Cases.{below_or}
 use Rattle.format.proofs.Acts.{image-long, image-short, image-fits}
+use Rattle.std.specs.Prelude.{Result, Ok, Err}
+use Rattle.builder.specs.declared.Ends.{Ends}
 use Rattle.builder.specs.Passes.{Near}
 use Rattle.builder.specs.Judging.{past_image, judged}
 
-module _ (b : ImagePlace) (e : IndexPlace) where
-  pub past-block : image_most < b.0 → past_image b e ≡ true
+module _ (e : Ends) where
+  pub past-block : image_most < e.block.0 → past_image e ≡ true
   unfolding past_image
-  past-block h = rw (lt-ltb image_most b.0 h)
+  past-block h = rw (lt-ltb image_most e.block.0 h)
 
-  pub past-entry : b.0 ≤ image_most → ltb image_most e.0 ≡ past_image b e
+  pub past-entry : e.block.0 ≤ image_most → ltb image_most e.entry.0 ≡ past_image e
   unfolding past_image
-  past-entry h = rw (le-ltb image_most b.0 h)
+  past-entry h = rw (le-ltb image_most e.block.0 h)
 
   -- the places are not both within an image
-  pub past-both : past_image b e ≡ true → b.0 ≤ image_most → e.0 ≤ image_most → ⊥
+  pub past-both : past_image e ≡ true → e.block.0 ≤ image_most → e.entry.0 ≤ image_most → ⊥
   unfolding past_image
-  past-both h x y = let z : ◌≡◌ {A = Bool} false true = rw (le-ltb image_most b.0 x, le-ltb image_most e.0 y) at h in let w : ◌≡◌ {A = ℕ} 0 1 = cc in omega arith
+  past-both h x y = let z : ◌≡◌ {A = Bool} false true = rw (le-ltb image_most e.block.0 x, le-ltb image_most e.entry.0 y) at h in let w : ◌≡◌ {A = ℕ} 0 1 = cc in omega arith
 
   -- the places are both within an image
-  pub past-neither : past_image b e ≡ false → (b.0 ≤ image_most) × (e.0 ≤ image_most)
+  pub past-neither : past_image e ≡ false → (e.block.0 ≤ image_most) × (e.entry.0 ≤ image_most)
   unfolding past_image
-  past-neither h = by (ltb image_most b.0) refl (ltb image_most e.0) refl h
+  past-neither h = by (ltb image_most e.block.0) refl (ltb image_most e.entry.0) refl h
     where
-      by : (x : Bool) → ltb image_most b.0 ≡ x → (y : Bool) → ltb image_most e.0 ≡ y → x || y ≡ false → (b.0 ≤ image_most) × (e.0 ≤ image_most)
-      by false p false q k = (ltb-false image_most b.0 p, ltb-false image_most e.0 q)
+      by : (x : Bool) → ltb image_most e.block.0 ≡ x → (y : Bool) → ltb image_most e.entry.0 ≡ y → x || y ≡ false → (e.block.0 ≤ image_most) × (e.entry.0 ≤ image_most)
+      by false p false q k = (ltb-false image_most e.block.0 p, ltb-false image_most e.entry.0 q)
       by false p true q k = let w : ◌≡◌ {A = ℕ} 0 1 = cc in absurd (omega arith)
       by true p false q k = let w : ◌≡◌ {A = ℕ} 0 1 = cc in absurd (omega arith)
       by true p true q k = let w : ◌≡◌ {A = ℕ} 0 1 = cc in absurd (omega arith)
 
-  pub past_near : past_image b e ≡ false → Near b e
+  pub past_near : past_image e ≡ false → Near e
   past_near h = let within = past-neither h in record { block_near = omega (arith, within.0); entry-near = omega (arith, within.1) }
 
 module _ (total room : ℕ) where
-  pub judged-long : image_most < total → judged total room ≡ Written.Refused ImageTooLong
+  pub judged-long : image_most < total → judged total room ≡ Err ImageTooLong
   unfolding judged
   judged-long h = rw (lt-leb total image_most h)
 
-  pub judged-short : total ≤ image_most → room < total → judged total room ≡ Written.Refused ShortBuffer
+  pub judged-short : total ≤ image_most → room < total → judged total room ≡ Err ShortBuffer
   unfolding judged
   judged-short h k = rw (le-leb total image_most h, lt-leb total room k)
 
-  pub judged-fits : total ≤ image_most → total ≤ room → judged total room ≡ Written.Bytes total
+  pub judged-fits : total ≤ image_most → total ≤ room → judged total room ≡ Ok total
   unfolding judged
   judged-fits h k = rw (le-leb total image_most h, le-leb total room k)
 
@@ -76,10 +75,10 @@ module _ (m : Meaning) (out : List ℕ) where
   total = length (writer_image m)
 
   -- the answer, and the buffer unless it is laid over
-  pub record Answers (answer : Written) : Type 0 where
+  pub record Answers (answer : Result ℕ Refusal) : Type 0 where
     pub says : written_says answer ≡ answer_of (sized (image_result m out))
-    pub left : (r : Refusal) → answer ≡ Written.Refused r → laid (image_result m out) out ≡ out
-    pub laid-over : (n : ℕ) → answer ≡ Written.Bytes n → (total ≤ image_most) × (total ≤ length out) × (laid (image_result m out) out ≡ overwrite (writer_image m) out)
+    pub left : (r : Refusal) → answer ≡ Err r → laid (image_result m out) out ≡ out
+    pub laid-over : (n : ℕ) → answer ≡ Ok n → (total ≤ image_most) × (total ≤ length out) × (laid (image_result m out) out ≡ overwrite (writer_image m) out)
 
   pub judged-answers : Answers (judged total (length out))
   judged-answers =
@@ -96,7 +95,7 @@ module _ (m : Meaning) (out : List ℕ) where
       (below_or (length out) total))
       (below_or image_most total)
     where
-      refusing : (r : Refusal) → judged total (length out) ≡ Written.Refused r → image_result m out ≡ refused r 0 → Answers (judged total (length out))
+      refusing : (r : Refusal) → judged total (length out) ≡ Err r → image_result m out ≡ refused r 0 → Answers (judged total (length out))
       refusing r j i = record {
         says = ap written_says j ∙ ap (λ (x : Outcome (List ℕ)). answer_of (sized x)) (sym i);
         left = λ q e. ap (λ (x : Outcome (List ℕ)). laid x out) i;

@@ -1,15 +1,13 @@
 -- The steps of a pass within a key: what each asks holds, and after it what the next asks.
 --   past-key                                  a place of the open key is past every image
---   extend_fits, extend-filling, extend-comes, extend_same   points are added
---   end_fits, count_fits, count_room, end_same   the key is closed
+--   extend_fits, extended-fill, extend-filling, extend-comes, extend_same   points are added
+--   end_fits, end_same                        the key is closed
 use Prim.Native.Nat.{ℕ, ◌+◌, ◌≤◌, ◌<◌}
 use mathlib.Core.Path.{◌≡◌, refl, sym, subst, ap, ◌∙◌}
 use mathlib.Core.Bool.{Bool, true, false}
 use mathlib.Core.List.{List, [], ◌++◌, append_assoc}
 use native.Mathlib.Omega.{arith}
-use lib.IntN.{ℤ}
-use lib.ListN.{length, take}
-use lib.Seq.{length-take-le}
+use lib.ListN.{length, take, length-take}
 use borrow.Author.Tests.{ltb-true, ltb-false}
 use Rattle.format.specs.declared.Kind.{Kind}
 use Rattle.format.specs.Limits.{writer_block_most, image_most}
@@ -17,26 +15,26 @@ use Rattle.format.specs.Choice.{every, ascends}
 use Rattle.format.specs.Meaning.{Point, point_before}
 use Rattle.format.specs.WellFormed.{good_point}
 use Rattle.section_laws.proofs.BlockLengths.{block_bytes-most}
-use Rattle.block_writer.specs.Fits.{BlockFits}
+use Rattle.format.specs.declared.Columns.{Columns}
 use Rattle.format.specs.Block.{filled}
+use Rattle.builder.specs.declared.Builder.{Builder}
 use Rattle.builder.specs.declared.Mode.{Mode}
 use Rattle.builder.specs.declared.Places.{Places}
 use Rattle.builder.specs.Modes.{lays, start_of}
 use Rattle.builder.specs.Open.{entries_left}
 use Rattle.numbers.specs.Laying.{Room}
-use Rattle.builder.specs.Steps.{FlushFits, ExtendFits, EndFits, CountFits, KeyFits, Closed, key_end, stays, fill_places, flush_places, flush_bytes, extend_places, extend_bytes, extend_fill, end_places, end_bytes}
-use Rattle.builder.proofs.Lefts.{Ends, ends-full, ends_last, grown-entries}
+use Rattle.builder.specs.Steps.{first_points, in_fill, FillFits, FlushFits, ExtendFits, EndFits, CountFits, KeyFits, Closed, key_end, closed_key, stays, fill_places, flush_places, flush_bytes, extend_places, extend_bytes, extend_fill, end_places, end_bytes}
+use Rattle.builder.proofs.Lefts.{Cut, ends-full, ends_last, grown-entries}
 use Rattle.builder.proofs.Fills.{extend-stays, extend-flushes, extend-fill}
-use Rattle.format.proofs.Cells.{filled-length}
 use Rattle.format.proofs.Tests.{never}
 use Rattle.builder.proofs.Futures.{end-future}
 use Rattle.builder.proofs.Extends.{fits-same, extend-future, flush-room, flush-kept, entries-length}
 use Rattle.builder.specs.Passes.{Near, KeyRoom, KeyOpen, Filling, Past}
-use Rattle.builder.proofs.Fillings.{every-right, ascends-right, fill-ascends, fill-of-kind}
+use Rattle.builder.proofs.Fillings.{every-right, ascends-right, fill-ascends, fill-of-kind, points-within}
 
 -- ---- past every image
 
-pub past-key : (mode : Mode) (kind : Kind) (f ps : List Point) (s : Places) (out : List ℕ) → (s.block.0 ≤ image_most → s.entry.0 ≤ image_most → ⊥) → Past (key_end mode kind f ps s out)
+pub past-key : (mode : Mode) (kind : Kind) (f ps : List Point) (s : Places) (out : List ℕ) → (s.ends.block.0 ≤ image_most → s.ends.entry.0 ≤ image_most → ⊥) → Past (key_end mode kind f ps s out)
 unfolding key_end
 past-key mode kind f ps s out h = record { past = λ b e. h (omega (arith, b)) (omega (arith, e)) }
 
@@ -55,8 +53,8 @@ module _ (mode : Mode) (kind : Kind) (f qs ps : List Point) (s : Places) (out : 
   key_fits : lays mode ≡ true → KeyFits (start_of mode) kind f' ps s out
   key_fits l = fits-same mode kind f qs ps s out (start_of mode) (h.room l).fits
 
-  key-most : lays mode ≡ true → start_of mode + s.entry.0 + length (entries_left kind s.block.0 f' ps) ≤ image_most
-  key-most l = rw (grown-entries f qs ps kind s.block.0) (h.room l).most
+  key-most : lays mode ≡ true → start_of mode + s.ends.entry.0 + length (entries_left kind s.ends.block.0 f' ps) ≤ image_most
+  key-most l = rw (grown-entries f qs ps kind s.ends.block.0) (h.room l).most
 
   filled-open : length f' < writer_block_most → KeyOpen mode kind f' ps (fill_places (length f') s) out
   unfolding fill_places
@@ -74,7 +72,7 @@ module _ (mode : Mode) (kind : Kind) (f qs ps : List Point) (s : Places) (out : 
   }
 
   module _ (full : length f' ≡ writer_block_most) where
-    ends : Ends f' ps
+    ends : Cut f' ps
     ends = ends-full f' ps full
 
     flushed-fits : lays mode ≡ true → KeyFits (start_of mode) kind [] ps (flush_places kind f' s) (flush_bytes mode kind f' s out)
@@ -88,7 +86,7 @@ module _ (mode : Mode) (kind : Kind) (f qs ps : List Point) (s : Places) (out : 
     unfolding flush_places
     flushed-room l = record { fits = flushed-fits l; most = omega (arith, key-most l, entries-length kind f' ps ends s) }
 
-    flushed-open : Near s.block s.entry → KeyOpen mode kind [] ps (flush_places kind f' s) (flush_bytes mode kind f' s out)
+    flushed-open : Near s.ends → KeyOpen mode kind [] ps (flush_places kind f' s) (flush_bytes mode kind f' s out)
     unfolding flush_places
     flushed-open near = record {
       fill = refl;
@@ -104,7 +102,7 @@ module _ (mode : Mode) (kind : Kind) (f qs ps : List Point) (s : Places) (out : 
       room = flushed-room;
     }
 
-  extend-open : Near s.block s.entry → KeyOpen mode kind (extend_fill f') ps (extend_places kind f' s) (extend_bytes mode kind f' s out)
+  extend-open : Near s.ends → KeyOpen mode kind (extend_fill f') ps (extend_places kind f' s) (extend_bytes mode kind f' s out)
   extend-open near = go (stays f') refl
     where
       same : {g g' : List Point} {q q' : Places} {x x' : List ℕ} → g ≡ g' → q ≡ q' → x ≡ x' → KeyOpen mode kind g' ps q' x' → KeyOpen mode kind g ps q x
@@ -126,136 +124,121 @@ module _ (mode : Mode) (kind : Kind) (f qs ps : List Point) (s : Places) (out : 
       go (Mode.Lay start) fits = flush-room kind f' ps (ends-full f' ps (omega (arith, most, full))) s start out (fits refl)
       go Mode.Measure fits = record { block_room = tt; entry-room = tt }
 
--- ---- the fill in two arrays
+-- ---- the same, of a builder
 
-module _ (mode : Mode) (kind : Kind) (ps : List Point) (s : Places) (times : List ℤ) (values out : List ℕ) where
-  abbrev n : ℕ
-  n = s.filled
+-- the first n points, with ps after them, make a block
+fill-fits : (n : ℕ) (b : Builder) (ps : List Point) → length (first_points n b) ≡ n → 1 ≤ n → n ≤ writer_block_most
+    → every (good_point b.kind) (first_points n b ++ ps) ≡ true → ascends point_before (first_points n b ++ ps) ≡ true → FillFits n b
+fill-fits n b ps count some most good ascend =
+    let ts = take n b.fill.times in
+    let vs = take n b.fill.values in
+    let within = points-within ts vs in
+    let in-ts : length ts ≡ n = omega (arith, within.0, count, length-take n b.fill.times) in
+    let in-vs : length vs ≡ n = omega (arith, within.1, count, length-take n b.fill.values) in
+    let same : length ts ≡ length vs = omega (arith, in-ts, in-vs) in
+    record {
+      most = most;
+      block = record {
+        times-fit = record { count = (omega (arith, in-ts, some), omega (arith, in-ts, most)); ascend = fill-ascends ts vs ps same ascend };
+        values-fit = record { count = (omega (arith, in-vs, some), omega (arith, in-vs, most)); of-kind = fill-of-kind b.kind ts vs ps same good };
+        same = sym same;
+      };
+    }
 
-  inside : Filling mode kind ps s times values out → (n ≤ length times) × (n ≤ length values)
-  inside h =
-      let few : n < writer_block_most = omega (arith, h.key.fill, h.key.few) in
-      (omega (arith, few, h.in-times), omega (arith, few, h.in-values))
+-- points are added: the first n points of the cells `fill` are those of the builder and ps, and qs are to come
+module _ (ps qs : List Point) (b : Builder) (out : List ℕ) (h : Filling (ps ++ qs) b out) (n : ℕ) (fill : Columns writer_block_most)
+    (points : filled n fill.times fill.values ≡ in_fill b ++ ps) (count : length (filled n fill.times fill.values) ≡ n) (most : n ≤ writer_block_most) where
+  abbrev more : Builder
+  more = record { mode = b.mode; kind = b.kind; places = b.places; fill = fill }
 
-  even : Filling mode kind ps s times values out → length (take n times) ≡ length (take n values)
-  even h = length-take-le n times (inside h).0 ∙ sym (length-take-le n values (inside h).1)
-
--- points are added: the first m cells are the fill and the points ps, and qs are to come
-module _ (mode : Mode) (kind : Kind) (ps qs : List Point) (s : Places) (times : List ℤ) (values out : List ℕ) (h : Filling mode kind (ps ++ qs) s times values out)
-    (m : ℕ) (times' : List ℤ) (values' : List ℕ) (cells : filled m times' values' ≡ filled s.filled times values ++ ps)
-    (most : m ≤ writer_block_most) (same-times : length times' ≡ length times) (same-values : length values' ≡ length values) where
   abbrev grown : List Point
-  grown = filled s.filled times values ++ ps
+  grown = in_fill b ++ ps
 
-  in_cells : (m ≤ length times') × (m ≤ length values')
-  in_cells = (omega (arith, most, same-times, h.in-times), omega (arith, most, same-values, h.in-values))
-
-  grown-length : length grown ≡ m
-  grown-length = sym (ap length cells) ∙ filled-length m times' values' in_cells.0 in_cells.1
+  grown-length : length grown ≡ n
+  grown-length = sym (ap length points) ∙ count
 
   grown-few : length grown ≤ writer_block_most
   grown-few = omega (arith, grown-length, most)
 
-  grown-even : length (take m times') ≡ length (take m values')
-  grown-even = length-take-le m times' in_cells.0 ∙ sym (length-take-le m values' in_cells.1)
+  with-points : filled n fill.times fill.values ++ qs ≡ in_fill b ++ (ps ++ qs)
+  with-points = ap (λ (rs : List Point). rs ++ qs) points ∙ append_assoc (in_fill b) ps qs
 
-  with-points : filled m times' values' ++ qs ≡ filled s.filled times values ++ (ps ++ qs)
-  with-points = ap (λ (rs : List Point). rs ++ qs) cells ∙ append_assoc (filled s.filled times values) ps qs
-
-  full-fits : writer_block_most ≤ m → BlockFits kind times' values' m
-  full-fits full =
-      let count : (1 ≤ m) × (m ≤ writer_block_most) = (omega (arith, full), most) in
-      record {
-        times-fit = record { count = count; inside = in_cells.0; ascend = fill-ascends (take m times') (take m values') qs grown-even (rw with-points h.key.ascend) };
-        values-fit = record { count = count; inside = in_cells.1; of-kind = fill-of-kind kind (take m times') (take m values') qs grown-even (rw with-points h.key.good) };
-      }
-
-  pub extend_fits : ExtendFits mode kind times' values' m s out
+  pub extend_fits : ExtendFits n more out
   extend_fits = record {
     most = most;
-    in-times = in_cells.0;
-    in-values = in_cells.1;
-    places-fit = h.key.places-fit;
-    block-fits = full-fits;
+    count = count;
+    places-fit = h.places-fit;
+    block-fits = λ full. fill-fits n more qs count (omega (arith, full)) most (rw with-points h.good) (rw with-points h.ascend);
     flush-fits = λ full.
-        subst (λ (f : List Point). FlushFits mode kind f s out) (sym cells)
-        (extend-room mode kind (filled s.filled times values) ps qs s out h.key grown-few (omega (arith, grown-length, full)));
+        subst (λ (f : List Point). FlushFits b.mode b.kind f b.places out) (sym points)
+        (extend-room b.mode b.kind (in_fill b) ps qs b.places out h grown-few (omega (arith, grown-length, full)));
   }
 
-  -- the places and bytes after it
-  module _ (s' : Places) (out' : List ℕ)
-      (places : s' ≡ extend_places kind (filled m times' values') s)
-      (laid : out' ≡ extend_bytes mode kind (filled m times' values') s out) where
-    fill : filled s'.filled times' values' ≡ extend_fill grown
-    fill = extend-fill kind m times' values' s s' in_cells.0 in_cells.1 places ∙ ap extend_fill cells
+  -- the builder and the bytes after it
+  abbrev extended : Builder
+  extended = record { mode = b.mode; kind = b.kind; places = extend_places b.kind (filled n fill.times fill.values) b.places; fill = fill }
 
-    places-are : s' ≡ extend_places kind grown s
-    places-are = places ∙ ap (λ (f : List Point). extend_places kind f s) cells
+  module _ (out' : List ℕ) (laid : out' ≡ extend_bytes b.mode b.kind (filled n fill.times fill.values) b.places out) where
+    pub extended-fill : in_fill extended ≡ extend_fill grown
+    extended-fill = extend-fill b.kind n fill.times fill.values b.places count ∙ ap extend_fill points
 
-    laid-are : out' ≡ extend_bytes mode kind grown s out
-    laid-are = laid ∙ ap (λ (f : List Point). extend_bytes mode kind f s out) cells
+    places-are : extended.places ≡ extend_places b.kind grown b.places
+    places-are = ap (λ (f : List Point). extend_places b.kind f b.places) points
 
-    pub extend-filling : Near s.block s.entry → Filling mode kind qs s' times' values' out'
-    extend-filling near = record {
-      in-times = omega (arith, same-times, h.in-times);
-      in-values = omega (arith, same-values, h.in-values);
-      key = rw (fill, places-are, laid-are) (extend-open mode kind (filled s.filled times values) ps qs s out h.key grown-few near);
-    }
+    laid-are : out' ≡ extend_bytes b.mode b.kind grown b.places out
+    laid-are = laid ∙ ap (λ (f : List Point). extend_bytes b.mode b.kind f b.places out) points
+
+    pub extend-filling : Near b.places.ends → Filling qs extended out'
+    extend-filling near = rw (extended-fill, places-are, laid-are) (extend-open b.mode b.kind (in_fill b) ps qs b.places out h grown-few near)
 
     -- whatever rs is to come, where nothing is laid
-    pub extend-comes : (rs : List Point) → (lays mode ≡ true → rs ≡ qs) → key_end mode kind (filled s'.filled times' values') rs s' out' ≡ key_end mode kind (filled s.filled times values) (ps ++ rs) s out
+    pub extend-comes : (rs : List Point) → (lays b.mode ≡ true → rs ≡ qs) → closed_key rs extended out' ≡ closed_key (ps ++ rs) b out
     extend-comes rs all =
-        rw (fill, places-are, laid-are)
-        (extend-future mode kind (filled s.filled times values) ps rs s out grown-few
-        (λ l. subst (λ (l : List Point). KeyFits (start_of mode) kind (filled s.filled times values) (ps ++ l) s out) (sym (all l)) (h.key.room l).fits))
+        rw (extended-fill, places-are, laid-are)
+        (extend-future b.mode b.kind (in_fill b) ps rs b.places out grown-few
+        (λ l. subst (λ (l : List Point). KeyFits (start_of b.mode) b.kind (in_fill b) (ps ++ l) b.places out) (sym (all l)) (h.room l).fits))
 
-    pub extend_same : key_end mode kind (filled s'.filled times' values') qs s' out' ≡ key_end mode kind (filled s.filled times values) (ps ++ qs) s out
+    pub extend_same : closed_key qs extended out' ≡ closed_key (ps ++ qs) b out
     extend_same = extend-comes qs (λ l. refl)
 
 -- ---- the key is closed
 
-module _ (mode : Mode) (kind : Kind) (s : Places) (times : List ℤ) (values out : List ℕ) (h : Filling mode kind [] s times values out) where
-  abbrev f : List Point
-  f = filled s.filled times values
+module _ (b : Builder) (out : List ℕ) (h : Filling [] b out) where
+  few : b.places.filled < writer_block_most
+  few = omega (arith, h.fill, h.few)
 
-  last_fits : 1 ≤ s.filled → BlockFits kind times values s.filled
-  last_fits some =
-      let ts = take s.filled times in
-      let vs = take s.filled values in
-      let in_both = inside mode kind [] s times values out h in
-      let same = even mode kind [] s times values out h in
-      let count : (1 ≤ s.filled) × (s.filled ≤ writer_block_most) = (some, omega (arith, h.key.fill, h.key.few)) in
-      record {
-        times-fit = record { count = count; inside = in_both.0; ascend = fill-ascends ts vs [] same h.key.ascend };
-        values-fit = record { count = count; inside = in_both.1; of-kind = fill-of-kind kind ts vs [] same h.key.good };
-      }
-
-  last-room : 1 ≤ s.filled → FlushFits mode kind f s out
-  last-room some = go mode (λ l. (h.key.room l).fits)
+  last-room : 1 ≤ b.places.filled → FlushFits b.mode b.kind (in_fill b) b.places out
+  last-room some = go b.mode (λ l. (h.room l).fits)
     where
-      go : (m : Mode) → (lays m ≡ true → KeyFits (start_of m) kind f [] s out) → FlushFits m kind f s out
+      go : (m : Mode) → (lays m ≡ true → KeyFits (start_of m) b.kind (in_fill b) [] b.places out) → FlushFits m b.kind (in_fill b) b.places out
       go (Mode.Lay start) fits =
-          let some' : 1 ≤ length f = omega (arith, h.key.fill, some) in
-          flush-room kind f [] (ends_last f some' (omega (arith, h.key.few))) s start out (fits refl)
+          let some' : 1 ≤ length (in_fill b) = omega (arith, h.fill, some) in
+          flush-room b.kind (in_fill b) [] (ends_last (in_fill b) some' (omega (arith, h.few))) b.places start out (fits refl)
       go Mode.Measure fits = record { block_room = tt; entry-room = tt }
 
-  pub end_fits : EndFits mode kind times values s out
-  end_fits = record { places-fit = h.key.places-fit; block-fits = last_fits; flush-fits = last-room }
-
-  pub count_fits : CountFits (lays mode) (s.blocks + 1)
-  count_fits = go mode (λ l. h.key.room l)
+  count-fits : CountFits (lays b.mode) (b.places.blocks + 1)
+  count-fits = go b.mode (λ l. h.room l)
     where
-      go : (m : Mode) → (lays m ≡ true → KeyRoom (start_of m) kind f [] s out) → CountFits (lays m) (s.blocks + 1)
-      go (Mode.Lay start) room = omega (arith, h.key.counted, (room refl).most)
+      go : (m : Mode) → (lays m ≡ true → KeyRoom (start_of m) b.kind (in_fill b) [] b.places out) → CountFits (lays m) (b.places.blocks + 1)
+      go (Mode.Lay start) room = omega (arith, h.counted, (room refl).most)
       go Mode.Measure room = tt
 
-  pub count_room : Room (lays mode) (start_of mode + s.count.0 + 2) out
-  count_room = go mode (λ l. (h.key.room l).fits)
+  count-room : Room (lays b.mode) (start_of b.mode + b.places.count.0 + 2) out
+  count-room = go b.mode (λ l. (h.room l).fits)
     where
-      go : (m : Mode) → (lays m ≡ true → KeyFits (start_of m) kind f [] s out) → Room (lays m) (start_of m + s.count.0 + 2) out
+      go : (m : Mode) → (lays m ≡ true → KeyFits (start_of m) b.kind (in_fill b) [] b.places out) → Room (lays m) (start_of m + b.places.count.0 + 2) out
       go (Mode.Lay start) fits = omega (arith, (fits refl).count, (fits refl).entries)
       go Mode.Measure fits = tt
 
-  pub end_same : (s' : Places) (out' : List ℕ) → s' ≡ end_places kind f s → out' ≡ end_bytes mode kind f s out
-      → ◌≡◌ {A = Closed} (record { block = s'.block; entry = s'.entry; bytes = out' }) (key_end mode kind f [] s out)
-  end_same s' out' e g = rw (e, g) (sym (end-future mode kind f s out (omega (arith, h.key.few)) (λ l. (h.key.room l).fits)))
+  pub end_fits : EndFits b out
+  end_fits = record {
+    places-fit = h.places-fit;
+    block-fits = λ some. fill-fits b.places.filled b [] h.fill some (omega (arith, few)) h.good h.ascend;
+    flush-fits = last-room;
+    count-fits = count-fits;
+    count-room = count-room;
+  }
+
+  pub end_same : (out' : List ℕ) → out' ≡ end_bytes b.mode b.kind (in_fill b) b.places out
+      → ◌≡◌ {A = Closed} (record { ends = (end_places b.kind (in_fill b) b.places).ends; bytes = out' }) (closed_key [] b out)
+  end_same out' e = rw e (sym (end-future b.mode b.kind (in_fill b) b.places out (omega (arith, h.few)) (λ l. (h.room l).fits)))

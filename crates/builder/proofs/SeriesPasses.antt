@@ -10,12 +10,10 @@ use mathlib.Core.Bool.{Bool, true, not, ◌&&◌}
 use mathlib.Core.List.{List, [], ◌∷◌, flat_map}
 use native.Mathlib.Nat.{add-zero}
 use native.Mathlib.Omega.{arith}
-use lib.IntN.{ℤ}
 use lib.Dec.{leb, ltb}
 use lib.ListN.{length}
 use borrow.Author.Tests.{leb-true}
-use Rattle.format.specs.declared.ImagePlace.{ImagePlace}
-use Rattle.format.specs.declared.IndexPlace.{IndexPlace}
+use Rattle.format.specs.declared.Columns.{Columns}
 use Rattle.format.specs.declared.Kind.{Kind}
 use Rattle.format.specs.Limits.{key_most, writer_block_most, image_most}
 use Rattle.format.specs.Choice.{every, ascends, is_empty}
@@ -23,6 +21,7 @@ use Rattle.format.specs.Meaning.{Series, Meaning, point_before}
 use Rattle.format.specs.WellFormed.{good_point, good_series}
 use Rattle.format.specs.Writer.{writer_index}
 use Rattle.format.proofs.Splices.{splice-length, splice-nothing}
+use Rattle.builder.specs.declared.Ends.{Ends}
 use Rattle.builder.specs.declared.Mode.{Mode}
 use Rattle.builder.specs.declared.Places.{Places}
 use Rattle.builder.specs.Modes.{lays, start_of, lay_index}
@@ -67,15 +66,15 @@ module _ (s : Series) (good : good_series s ≡ true) where
 
 -- ---- a place is past every image
 
-pub past_first : (mode : Mode) (ss : Meaning) (b : ImagePlace) (e : IndexPlace) (out : List ℕ) → (b.0 ≤ image_most → e.0 ≤ image_most → ⊥) → Past (series_end mode ss b e out)
+pub past_first : (mode : Mode) (ss : Meaning) (e : Ends) (out : List ℕ) → (e.block.0 ≤ image_most → e.entry.0 ≤ image_most → ⊥) → Past (series_end mode ss e out)
 unfolding series_end
-past_first mode ss b e out h = record { past = λ x y. h (omega (arith, x)) (omega (arith, y)) }
+past_first mode ss e out h = record { past = λ x y. h (omega (arith, x)) (omega (arith, y)) }
 
 -- ---- a key is opened at the places p
 
 -- what its key alone says
-module _ (key : List ℕ) (p : Places) (short : length key ≤ key_most) (block_in : p.block.0 ≤ image_most) (entry_in : p.entry.0 ≤ image_most) where
-  pub opened-near : Near (begin_places key p).block (begin_places key p).entry
+module _ (key : List ℕ) (p : Places) (short : length key ≤ key_most) (block_in : p.ends.block.0 ≤ image_most) (entry_in : p.ends.entry.0 ≤ image_most) where
+  pub opened-near : Near (begin_places key p).ends
   unfolding begin_places
   opened-near = record { block_near = omega arith; entry-near = omega arith }
 
@@ -92,30 +91,30 @@ module _ (key : List ℕ) (p : Places) (short : length key ≤ key_most) (block_
   }
 
   -- where nothing is laid, no point to come is known
-  pub measured-filling : (kind : Kind) (s' : Places) (times : List ℤ) (values out : List ℕ) → s' ≡ begin_places key p
-      → writer_block_most ≤ length times → writer_block_most ≤ length values → Filling Mode.Measure kind [] s' times values out
+  pub measured-filling : (kind : Kind) (fill : Columns writer_block_most) (out : List ℕ)
+      → Filling [] (record { mode = Mode.Measure; kind = kind; places = begin_places key p; fill = fill }) out
   unfolding begin_places
-  measured-filling kind s' times values out e in-times in-values = rw e (record { in-times = in-times; in-values = in-values; key = measured-open kind out })
+  measured-filling kind fill out = measured-open kind out
 
-module _ (mode : Mode) (s : Series) (ss : Meaning) (p : Places) (out : List ℕ) (room : lays mode ≡ true → SeriesRoom (start_of mode) (s ∷ ss) p.block p.entry out) where
+module _ (mode : Mode) (s : Series) (ss : Meaning) (p : Places) (out : List ℕ) (room : lays mode ≡ true → SeriesRoom (start_of mode) (s ∷ ss) p.ends out) where
   abbrev opened : List ℕ
-  opened = lay_index mode p.entry (head_bytes s.key s.kind) out
+  opened = lay_index mode p.ends.entry (head_bytes s.key s.kind) out
 
   abbrev closed : Closed
   closed = key_end mode s.kind [] s.points (begin_places s.key p) opened
 
-  pub begin-room : Room (lays mode) (start_of mode + p.entry.0 + length s.key + 5) out
+  pub begin-room : Room (lays mode) (start_of mode + p.ends.entry.0 + length s.key + 5) out
   begin-room = go mode room
     where
-      go : (m : Mode) → (lays m ≡ true → SeriesRoom (start_of m) (s ∷ ss) p.block p.entry out) → Room (lays m) (start_of m + p.entry.0 + length s.key + 5) out
+      go : (m : Mode) → (lays m ≡ true → SeriesRoom (start_of m) (s ∷ ss) p.ends out) → Room (lays m) (start_of m + p.ends.entry.0 + length s.key + 5) out
       go (Mode.Lay start) r = omega (arith, (r refl).index, index-length s ss p, head-length s ss p, count-length s ss p)
       go Mode.Measure r = tt
 
   opened-length : length opened ≡ length out
   opened-length = go mode begin-room
     where
-      go : (m : Mode) → Room (lays m) (start_of m + p.entry.0 + length s.key + 5) out → length (lay_index m p.entry (head_bytes s.key s.kind) out) ≡ length out
-      go (Mode.Lay start) inside = splice-length (start.0 + p.entry.0) (head_bytes s.key s.kind) out (omega (arith, inside, head-length s ss p))
+      go : (m : Mode) → Room (lays m) (start_of m + p.ends.entry.0 + length s.key + 5) out → length (lay_index m p.ends.entry (head_bytes s.key s.kind) out) ≡ length out
+      go (Mode.Lay start) inside = splice-length (start.0 + p.ends.entry.0) (head_bytes s.key s.kind) out (omega (arith, inside, head-length s ss p))
       go Mode.Measure inside = refl
 
   opened-room : lays mode ≡ true → KeyRoom (start_of mode) s.kind [] s.points (begin_places s.key p) opened
@@ -133,7 +132,7 @@ module _ (mode : Mode) (s : Series) (ss : Meaning) (p : Places) (out : List ℕ)
         most = omega (arith, (room l).most, n, h, c);
       }
 
-  module _ (good : good_series s ≡ true) (block_in : p.block.0 ≤ image_most) (entry_in : p.entry.0 ≤ image_most) where
+  module _ (good : good_series s ≡ true) (block_in : p.ends.block.0 ≤ image_most) (entry_in : p.ends.entry.0 ≤ image_most) where
     opened-open : KeyOpen mode s.kind [] s.points (begin_places s.key p) opened
     unfolding begin_places
     opened-open = record {
@@ -146,17 +145,17 @@ module _ (mode : Mode) (s : Series) (ss : Meaning) (p : Places) (out : List ℕ)
       room = opened-room;
     }
 
-    pub begin-filling : (s' : Places) (times : List ℤ) (values out' : List ℕ) → s' ≡ begin_places s.key p → out' ≡ opened
-        → writer_block_most ≤ length times → writer_block_most ≤ length values → Filling mode s.kind s.points s' times values out'
+    pub begin-filling : (fill : Columns writer_block_most) (out' : List ℕ) → out' ≡ opened
+        → Filling s.points (record { mode = mode; kind = s.kind; places = begin_places s.key p; fill = fill }) out'
     unfolding begin_places
-    begin-filling s' times values out' e f in-times in-values = rw (e, f) (record { in-times = in-times; in-values = in-values; key = opened-open })
+    begin-filling fill out' e = rw e opened-open
 
   -- ---- it is closed
 
-  pub series-same : series_end mode ss closed.block closed.entry closed.bytes ≡ series_end mode (s ∷ ss) p.block p.entry out
+  pub series-same : series_end mode ss closed.ends closed.bytes ≡ series_end mode (s ∷ ss) p.ends out
   series-same = begin-future s ss p mode out (λ l. ((room l).blocks, (room l).index))
 
-  pub series-room : (bytes : List ℕ) → length bytes ≡ length out → lays mode ≡ true → SeriesRoom (start_of mode) ss closed.block closed.entry bytes
+  pub series-room : (bytes : List ℕ) → length bytes ≡ length out → lays mode ≡ true → SeriesRoom (start_of mode) ss closed.ends bytes
   unfolding key_end begin_places
   series-room bytes same l =
       let n = index-length s ss p in
@@ -168,12 +167,12 @@ module _ (mode : Mode) (s : Series) (ss : Meaning) (p : Places) (out : List ℕ)
         most = omega (arith, (room l).most, n, h, c);
       }
 
-  pub past-series : Past closed → Past (series_end mode (s ∷ ss) p.block p.entry out)
-  past-series h = subst Past series-same (past_first mode ss closed.block closed.entry closed.bytes h.past)
+  pub past-series : Past closed → Past (series_end mode (s ∷ ss) p.ends out)
+  past-series h = subst Past series-same (past_first mode ss closed.ends closed.bytes h.past)
 
 -- ---- no series is left
 
-pub series-none : (mode : Mode) (b : ImagePlace) (e : IndexPlace) (out : List ℕ) → series_end mode [] b e out ≡ record { block = b; entry = e; bytes = out }
+pub series-none : (mode : Mode) (e : Ends) (out : List ℕ) → series_end mode [] e out ≡ record { ends = e; bytes = out }
 unfolding series_end writer_index flat_map
-series-none (Mode.Lay start) b e out = closed_same (add-zero b.0) (add-zero e.0) (splice-nothing (start.0 + e.0) _ ∙ splice-nothing b.0 out)
-series-none Mode.Measure b e out = closed_same (add-zero b.0) (add-zero e.0) refl
+series-none (Mode.Lay start) e out = closed_same (add-zero e.block.0) (add-zero e.entry.0) (splice-nothing (start.0 + e.entry.0) _ ∙ splice-nothing e.block.0 out)
+series-none Mode.Measure e out = closed_same (add-zero e.block.0) (add-zero e.entry.0) refl

@@ -2,33 +2,36 @@
 use mathlib.Core.Path.{◌≡◌, ap, sym, ◌∙◌}
 use Prim.Native.Nat.{ℕ, ◌+◌, ◌≤◌}
 use lib.ListN.{length}
+use lib.Seq.{take_all}
 use Rattle.format.specs.Varint.{varint}
-use Rattle.format.specs.Block.{block_bytes, filled}
-use Rattle.block_writer.proofs.Parts.{filled-length, filled-most}
+use Rattle.format.specs.Block.{block_bytes, points_from}
+use Rattle.block_writer.proofs.Parts.{points_bytes-length, points-most}
 use native.Mathlib.Omega.{arith}
 use Rattle.block_writer.proofs.len.Goals as goal
 
 -- the parts and the whole
 record Sized (c : goal.After-varint_len) : Type 0 where
   whole : let a = c.args in
-      length (block_bytes a.kind (filled a.n a.times.now a.values.now))
+      length (block_bytes a.kind (points_from a.times.now a.values.now))
       ≡ 5 + c.varint_len.result + c.len-times_len.result + c.values_len-values_len.result
   most : c.varint_len.result + c.len-times_len.result + c.values_len-values_len.result ≤ 20_000
 
 sized : (c : goal.After-varint_len) → Sized c
 sized c =
     let a = c.args in
-    let e = c.len-times_len.ensures in
+    let e = rw (take_all (length a.times.now) a.times.now (omega arith)) at c.len-times_len.ensures in
     let f = c.values_len-values_len.ensures in
     let g = c.varint_len.ensures ∙ ap (λ (n : ℕ). length (varint n)) e in
-    let whole = filled-length a.kind a.n a.times.now a.values.now c.requires in
+    let whole = points_bytes-length a.kind a.times.now a.values.now c.requires in
     record {
       whole = omega (arith, whole, e, f, g);
-      most = omega (arith, whole, e, f, g, filled-most a.kind a.n a.times.now a.values.now c.requires);
+      most = omega (arith, whole, e, f, g, points-most a.kind a.times.now a.values.now c.requires);
     }
 
 pub len-times_len-requires : goal.len-times_len-requires
-len-times_len-requires c = let fits = c.requires.times-fit in (fits.count.0, fits.count.1, fits.inside, fits.ascend)
+len-times_len-requires c =
+    let fits = c.requires.times-fit in
+    (fits.count.0, fits.count.1, omega arith, rw (take_all (length c.args.times.now) c.args.times.now (omega arith)) fits.ascend)
 
 pub values_len-values_len-requires : goal.values_len-values_len-requires
 values_len-values_len-requires c = c.requires.values-fit

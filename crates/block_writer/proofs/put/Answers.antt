@@ -5,7 +5,7 @@ use mathlib.Core.List.{List}
 use lib.ListN.{length}
 use Rattle.format.specs.Crc32.{crc32}
 use Rattle.format.specs.Bytes.{big_bytes, splice}
-use Rattle.format.specs.Block.{body_bytes, block_bytes, filled}
+use Rattle.format.specs.Block.{body_bytes, block_bytes, points_from}
 use Rattle.numbers.proofs.BigEndian.{big_bytes-length}
 use Rattle.block_writer.proofs.Parts.{block-length}
 use Rattle.format.proofs.Splices.{laid-before, part-back}
@@ -14,10 +14,10 @@ use Rattle.block_writer.proofs.put.Goals as goal
 use Rattle.block_writer.proofs.put.Goals.{Start}
 
 abbrev body : Start → List ℕ
-body c = body_bytes c.args.kind (filled c.args.n c.args.times.now c.args.values.now)
+body c = body_bytes c.args.kind (points_from c.args.times.now c.args.values.now)
 
-sized : (c : Start) → length (block_bytes c.args.kind (filled c.args.n c.args.times.now c.args.values.now)) ≡ 4 + length (body c)
-sized c = block-length c.args.kind (filled c.args.n c.args.times.now c.args.values.now)
+sized : (c : Start) → length (block_bytes c.args.kind (points_from c.args.times.now c.args.values.now)) ≡ 4 + length (body c)
+sized c = block-length c.args.kind (points_from c.args.times.now c.args.values.now)
 
 pub overflow_add-at : goal.overflow_add-at
 overflow_add-at c = omega (arith, c.requires.1, sized (goal.at.overflow_add-at c).Start)

@@ -11,23 +11,23 @@ use Rattle.builder.proofs.judge.Goals as goal
 use Rattle.builder.proofs.judge.Goals.{After-in_image-end, Else-past}
 
 -- the places are within an image
-within : (c : Else-past) → (c.args.block.0 ≤ image_most) × (c.args.entry.0 ≤ image_most)
+within : (c : Else-past) → (c.args.ends.block.0 ≤ image_most) × (c.args.ends.entry.0 ≤ image_most)
 within c =
     let a = c.args in
-    past-neither a.block a.entry (sym c.past.ensures ∙ c.if-past.false)
+    past-neither a.ends (sym c.past.ensures ∙ c.if-past.false)
 
 -- the length is that of blocks, index and footer
-total-is : (c : After-in_image-end) → let a = c.args in judged (c.in_image-end.result.0 + 8) a.room ≡ judged (a.block.0 + a.entry.0 + 8) a.room
+total-is : (c : After-in_image-end) → let a = c.args in judged (c.in_image-end.result.0 + 8) a.room ≡ judged (a.ends.block.0 + a.ends.entry.0 + 8) a.room
 total-is c = ap (λ (n : ℕ). judged (n + 8) c.args.room) c.in_image-end.ensures
 
 pub returns-then-past : goal.returns-then-past
 returns-then-past c =
     let a = c.args in
-    let total = a.block.0 + a.entry.0 + 8 in
+    let total = a.ends.block.0 + a.ends.entry.0 + 8 in
     sym
     (judged-long total a.room
     (⊎_elim (λ (long : image_most < total). long)
-    (λ (short : total ≤ image_most). absurd (past-both a.block a.entry (sym c.past.ensures ∙ c.if-past.true) (omega arith) (omega arith)))
+    (λ (short : total ≤ image_most). absurd (past-both a.ends (sym c.past.ensures ∙ c.if-past.true) (omega arith) (omega arith)))
     (below_or image_most total)))
 
 pub in_image-end-requires : goal.in_image-end-requires
