@@ -1,4 +1,4 @@
--- `crc32::word_on` meets its contract: a word is eight groups of four bits.
+-- `Table::word_on` meets its contract: a word is eight groups of four bits.
 use mathlib.Core.Path.{◌≡◌}
 use Prim.Native.Nat.{◌+◌, ◌*◌, ◌/◌, ◌%◌, ◌^◌}
 use native.Mathlib.Nat.{add-zero, div-one}
@@ -7,7 +7,7 @@ use lib.Bits.{xor_zero_r}
 use Rattle.format.specs.Crc32.{shift_bits}
 use Rattle.crc32.proofs.Runs.{bits-zero}
 use Rattle.crc32.proofs.ByGroups.{by-groups}
-use Rattle.crc32.proofs.word_on.Goals as goal
+use Rattle.crc32.proofs.Table.word_on.Goals as goal
 
 pub returns : goal.returns
 returns c =
