@@ -17,6 +17,6 @@ read_parts kind offset next split s = do
   vs ← read_values kind (length ts) (split + offset) (drop split s)
   ok (points_from ts vs)
 
--- the first and the last of the first n times are those of the entry
-abbrev pub ends_match : List ℤ → (n : ℕ) → Entry → Bool
-ends_match times n entry = same_time (get_or times 0 (pos 0)) entry.min && same_time (get_or times (n - 1) (pos 0)) entry.max
+-- the first and the last of some times are those of the entry
+abbrev pub ends_match : List ℤ → Entry → Bool
+ends_match times entry = same_time (get_or times 0 (pos 0)) entry.min && same_time (get_or times (length times - 1) (pos 0)) entry.max

@@ -11,7 +11,7 @@
 --   Done           the open key has no point left
 --   at_cursor, past_block   a feed with no block decoded, and the feed after all points of the decoded block
 --   Begun, OnKey, OnBlock   what the first feed and each step have
-use Rattle.std.specs.Prelude.{ℕ, ◌≤◌, ◌<◌, ◌≡◌, List, [], ◌∷◌, ◌++◌, ℤ}
+use Rattle.std.specs.Prelude.{ℕ, ◌≤◌, ◌<◌, ◌≡◌, List, [], ◌∷◌, ◌++◌, ℤ, Option, Some, None}
 use Rattle.format.specs.declared.Entry.{Entry}
 use Rattle.format.specs.declared.ImagePlace.{ImagePlace}
 use Rattle.format.specs.Limits.{read_block_most}
@@ -24,8 +24,6 @@ use Rattle.format.specs.File.{index_start, check_frame, read_blocks, read_series
 use Rattle.index.specs.declared.Cursor.{Cursor}
 use Rattle.index.specs.Cursors.{key_at, rest, Sound}
 use Rattle.feed.specs.declared.Feed.{Feed}
-use Rattle.feed.specs.declared.NextKey.{NextKey}
-use Rattle.feed.specs.declared.NextBlock.{NextBlock}
 use Rattle.index.specs.Frames.{index_part}
 
 -- the open key
@@ -94,9 +92,9 @@ pub record KeyOpened (image : List ℕ) (f g : Feed) : Type 0 where
   pub held : g.count ≤ g.next
   pub series : series_left image f ≡ open_series image g (blocks_left image g) ∷ series_left image g
 
-abbrev pub OnKey : List ℕ → Feed → NextKey → Type 0
-OnKey image f (NextKey.Key g) = KeyOpened image f g
-OnKey image f NextKey.End = series_left image f ≡ []
+abbrev pub OnKey : List ℕ → Feed → Option Feed → Type 0
+OnKey image f (Some g) = KeyOpened image f g
+OnKey image f None = series_left image f ≡ []
 
 -- ---- the next block
 
@@ -115,9 +113,9 @@ pub record BlockOpened (image : List ℕ) (f : Feed) (times : List ℤ) (values 
   pub further : f.cursor.at.0 < g.cursor.at.0
   pub points : blocks_left image f ≡ held g times values ++ blocks_left image g
 
-abbrev pub OnBlock : List ℕ → Feed → (times : List ℤ) → (values : List ℕ) → NextBlock → Type 0
-OnBlock image f times values (NextBlock.Block g) = BlockOpened image f times values g
-OnBlock image f times values NextBlock.End = (f.cursor.left ≡ 0) × (blocks_left image f ≡ [])
+abbrev pub OnBlock : List ℕ → Feed → (times : List ℤ) → (values : List ℕ) → Option Feed → Type 0
+OnBlock image f times values (Some g) = BlockOpened image f times values g
+OnBlock image f times values None = (f.cursor.left ≡ 0) × (blocks_left image f ≡ [])
 
 -- a feed with no block decoded
 abbrev pub at_cursor : ImagePlace → Cursor → Feed

@@ -2,6 +2,7 @@
 --   splice-length      the length is unchanged
 --   splice-nothing     nothing laid over
 --   splice_front       at place 0 it is format's `overwrite`
+--   overwrite-whole    all of it laid over
 --   splice-append      a part and then the part after it are laid as one
 --   splice-set         a store is a part of one element
 --   splice-store       a store and then the part after it are laid as one
@@ -16,11 +17,11 @@
 --   part-back          a part that was laid, read back
 use Prim.Native.Nat.{ℕ, ◌+◌, ◌-◌, ◌≤◌, ◌<◌}
 use mathlib.Core.Path.{◌≡◌, refl, sym, ap, ap₂, subst, ◌∙◌}
-use mathlib.Core.List.{List, [], ◌∷◌, ◌++◌, append_assoc}
+use mathlib.Core.List.{List, [], ◌∷◌, ◌++◌, append_assoc, append-nil}
 use native.Mathlib.Nat.{add-zero, zero-add, add_assoc}
 use native.Mathlib.Numerals.{add-one}
 use native.Mathlib.Omega.{arith}
-use lib.ListN.{length, take, drop, set, length-append, length-take, length-drop, take-append-drop}
+use lib.ListN.{length, take, drop, set, drop_of_length-le, length-append, length-take, length-drop, take-append-drop}
 use lib.Seq.{length-take-le, take-add, take_at, drop_at, take-append-le, drop-append-add, take-take, drop-drop, set_split}
 use Rattle.format.specs.Bytes.{overwrite, splice}
 
@@ -40,6 +41,9 @@ module _ {A : Type 0} where
   pub splice_front : (new old : List A) → splice 0 new old ≡ overwrite new old
   unfolding splice
   splice_front new old = rw zero-add
+
+  pub overwrite-whole : (new old : List A) → length old ≡ length new → overwrite new old ≡ new
+  overwrite-whole new old e = rw (drop_of_length-le old {i = length new} (omega arith), append-nil)
 
   module _ (at : ℕ) (new old : List A) where
     pub take-splice : (n : ℕ) → n ≤ at → at ≤ length old → take n (splice at new old) ≡ take n old

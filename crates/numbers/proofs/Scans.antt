@@ -10,8 +10,7 @@ use Rattle.format.specs.declared.Refusal.TheVariants.{BadRoll}
 use Rattle.format.specs.Refusals.{Outcome, ok, refused}
 use Rattle.format.specs.Varint.{read_groups}
 use Rattle.format.proofs.Cases.{same_or}
-use Rattle.numbers.specs.declared.Varint.TheVariants.{Number, Broken}
-use Rattle.numbers.specs.VarintAt.{varint_of, varint_at, breaks_after, Reading}
+use Rattle.numbers.specs.VarintAt.{varint_of, varint_at, number, broken, breaks_after, Reading}
 use Rattle.numbers.proofs.Varints.{kept-tenth, read-breaks, read-last, read_more, last_fits, more-below, power-more, power-fits}
 
 -- a byte before the tenth and after the first breaks a varint where it is 0
@@ -26,7 +25,7 @@ unfolding varint_at
 scan-start s at inside = record { few = omega arith; scaled = refl; below = omega arith; inside = inside; same = refl }
 
 module _ {s : List ℕ} {at value scale groups place : ℕ} (r : Reading s at value scale groups place) where
-  pub scan-end : length s ≤ place → Broken place ≡ varint_at s at
+  pub scan-end : length s ≤ place → broken place ≡ varint_at s at
   unfolding read_groups
   scan-end h = rw (drop_of_length-le s {i = place} h) at r.same
 
@@ -40,14 +39,14 @@ module _ {s : List ℕ} {at value scale groups place : ℕ} (r : Reading s at va
         let next : drop place s ≡ byte ∷ drop (place + 1) s = rw add-one (drop-cons s place 0 h) in
         sym (ap varint_of e) ∙ (rw next at r.same)
 
-    pub scan-breaks : breaks_after groups (get_or s place 0) ≡ true → Broken place ≡ varint_at s at
+    pub scan-breaks : breaks_after groups (get_or s place 0) ≡ true → broken place ≡ varint_at s at
     scan-breaks e = reads (refused BadRoll place) (read-breaks BadRoll groups value place byte _ e)
 
     module _ (kept : breaks_after groups (get_or s place 0) ≡ false) where
       pub scan-fits : get_or s place 0 < 128 → value + get_or s place 0 * scale < 2 ^ 64
       scan-fits small = last_fits groups byte value scale r.scaled r.below r.few small (kept-tenth groups byte kept)
 
-      pub scan-last : get_or s place 0 < 128 → Number (value + get_or s place 0 * scale) (place + 1) ≡ varint_at s at
+      pub scan-last : get_or s place 0 < 128 → number (value + get_or s place 0 * scale) (place + 1) ≡ varint_at s at
       scan-last small =
           rw r.scaled (reads (ok (value + byte * 128 ^ groups, place + 1, drop (place + 1) s)) (read-last BadRoll groups value place byte _ kept small))
 
@@ -76,7 +75,7 @@ module _ {s : List ℕ} {at value scale groups place : ℕ} (r : Reading s at va
             }
 
 -- the first byte ends the number
-pub scan-first : (s : List ℕ) (at : ℕ) → at < length s → get_or s at 0 < 128 → Number (get_or s at 0) (at + 1) ≡ varint_at s at
+pub scan-first : (s : List ℕ) (at : ℕ) → at < length s → get_or s at 0 < 128 → number (get_or s at 0) (at + 1) ≡ varint_at s at
 scan-first s at h small =
     let kept : breaks_after 0 (get_or s at 0) ≡ false = and-false (eqb (get_or s at 0) 0) in
     let one : 0 + get_or s at 0 * 1 ≡ get_or s at 0 = omega arith in
@@ -87,12 +86,12 @@ module _ {s : List ℕ} {at value scale place : ℕ} (r : Reading s at value sca
   pub tenth-fits : get_or s place 0 ≡ 1 → value + scale < 2 ^ 64
   tenth-fits one = omega (arith, scan-fits r h (rw one refl) (omega arith))
 
-  pub scan-tenth : get_or s place 0 ≡ 1 → Number (value + scale) (place + 1) ≡ varint_at s at
+  pub scan-tenth : get_or s place 0 ≡ 1 → number (value + scale) (place + 1) ≡ varint_at s at
   scan-tenth one =
       let whole : value + get_or s place 0 * scale ≡ value + scale = rw one (omega arith) in
       rw whole at (scan-last r h (rw one refl) (omega arith))
 
-  pub scan-no-tenth : (get_or s place 0 ≡ 1 → ⊥) → Broken place ≡ varint_at s at
+  pub scan-no-tenth : (get_or s place 0 ≡ 1 → ⊥) → broken place ≡ varint_at s at
   scan-no-tenth other =
       ⊎_elim
       (λ (none : get_or s place 0 ≡ 0). scan-breaks r h (breaks-middle 9 (get_or s place 0) (omega arith) none))

@@ -1,52 +1,37 @@
 -- The numbers of words, counted by the selectors alone.
---   Counted                                     the state of the loop: those counted and those of the words left are all of them
---   counted_start, counted-room, counted_next, counted-more, counted-end   step by step
-use mathlib.Core.Path.{◌≡◌, sym, ap, ◌∙◌}
+--   Counted     the state of the loop: those counted and those of the words left are all of them
+--   counted-next, counted-more, counted-end   step by step
+use mathlib.Core.Path.{◌≡◌}
 use mathlib.Core.List.{List, [], ◌++◌, flat_map}
-use Prim.Native.Nat.{ℕ, ◌+◌, ◌-◌, ◌/◌, ◌%◌, ◌^◌, ◌≤◌, ◌<◌}
-use native.Mathlib.Nat.{zero-add}
+use Prim.Native.Nat.{ℕ, ◌+◌, ◌/◌, ◌%◌, ◌^◌, ◌<◌}
 use native.Mathlib.Omega.{arith}
-use lib.ListN.{length, take, drop, length-append, length-drop, drop_of_length-le}
-use lib.Seq.{drop-drop}
+use lib.ListN.{length, take, drop}
 use Rattle.format.specs.Bytes.{big_endian}
 use Rattle.format.specs.Simple8b.{word_numbers, words_numbers}
-use Rattle.section_laws.proofs.OneWord.{word_numbers-length}
-use Rattle.section_laws.proofs.PackedWords.{words_numbers-next}
 use Rattle.simple8b.specs.declared.Selector.{Selector}
 use Rattle.simple8b.specs.Selectors.{selector_of}
+use Rattle.simple8b.proofs.Words.{count_of}
+use Rattle.simple8b.proofs.Unpacking.{next-counts, next-whole, word-is, none-left}
 
--- s the bytes: the words from at to place hold total numbers
-pub record Counted (s : List ℕ) (at total place : ℕ) : Type 0 where
-  pub whole : (length s - place) % 8 ≡ 0
-  pub inside : place ≤ length s
-  pub counts : total + length (words_numbers (drop place s)) ≡ length (words_numbers (drop at s))
+-- s the bytes: the words before the rest hold count numbers
+pub record Counted (s : List ℕ) (count : ℕ) (rest : List ℕ) : Type 0 where
+  pub whole : length rest % 8 ≡ 0
+  pub counts : count + length (words_numbers rest) ≡ length (words_numbers s)
 
-pub counted_start : (s : List ℕ) (at : ℕ) → at ≤ length s → (length s - at) % 8 ≡ 0 → Counted s at 0 at
-counted_start s at a w = record { whole = w; inside = a; counts = zero-add (length (words_numbers (drop at s))) }
-
-module _ {s : List ℕ} {at total place : ℕ} (u : Counted s at total place) where
-  pub counted-end : length s ≤ place → total ≡ length (words_numbers (drop at s))
+module _ {s : List ℕ} {count : ℕ} {rest : List ℕ} (u : Counted s count rest) where
+  pub counted-end : length rest < 8 → count ≡ length (words_numbers s)
   unfolding flat_map
   counted-end h =
-      let z : drop place s ≡ [] = drop_of_length-le s h in
-      let n : length (words_numbers (drop place s)) ≡ 0 = rw z in
+      let z : rest ≡ [] = none-left u.whole h in
+      let n : length (words_numbers rest) ≡ 0 = rw z in
       omega (arith, u.counts)
 
-  module _ (h : place < length s) where
-    pub counted-room : place + 8 ≤ length s
-    counted-room = omega (arith, u.whole)
+  module _ (w left : List ℕ) (e : rest ≡ w ++ left) (eight : length w ≡ 8)
+      (word : ℕ) (is : word ≡ big_endian (take 8 (drop 0 w))) (r : Selector) (f : r ≡ selector_of (word / 2 ^ 60)) where
+    pub counted-next : count + r.count + length (words_numbers left) ≡ length (words_numbers s)
+    counted-next =
+        let c : r.count ≡ length (word_numbers (big_endian w)) = rw (word-is w eight word is) at (count_of word r f) in
+        omega (arith, u.counts, next-counts w left rest e eight, c)
 
-    module _ (word : ℕ) (r : Selector) (e : word ≡ big_endian (take 8 (drop place s))) (f : r ≡ selector_of (word / 2 ^ 60)) where
-      pub counted_next : total + r.count + length (words_numbers (drop (place + 8) s)) ≡ length (words_numbers (drop at s))
-      unfolding selector_of
-      counted_next =
-          let w = big_endian (take 8 (drop place s)) in
-          let eight : 8 ≤ length (drop place s) = omega (arith, length-drop place s, u.whole) in
-          let next : words_numbers (drop place s) ≡ word_numbers w ++ words_numbers (drop (place + 8) s) =
-          rw (← drop-drop 8 place s) (words_numbers-next (drop place s) eight) in
-          let l = ap length next ∙ length-append (word_numbers w) (words_numbers (drop (place + 8) s)) in
-          let c : r.count ≡ length (word_numbers w) = rw (f, e) (sym (word_numbers-length w)) in
-          omega (arith, u.counts, l, c)
-
-      pub counted-more : Counted s at (total + r.count) (place + 8)
-      counted-more = record { whole = omega (arith, u.whole); inside = counted-room; counts = counted_next }
+    pub counted-more : Counted s (count + r.count) left
+    counted-more = record { whole = next-whole w left rest e eight u.whole; counts = counted-next }

@@ -7,7 +7,7 @@ ghost use Rattle.format.specs.Refusals.{refusal_number};
 ghost use Rattle.format.specs.Acts.{check_answer, find_answer, read_block_answer, read_block_times, read_block_values, read_point_answer, written_says, write_answer, write_buffer, unroll_answer, unroll_buffer, merge_answer, merge_buffer};
 ghost use Rattle.tsm.specs.Answers.{accepted_answer, refused_answer, entry_of, no_entry, checked_of, found_of, block_of, point_of, written_of};
 
-use format::{BlockRead, Checked, Entry, Found, PointRead, Refusal, Written};
+use format::{BlockRead, Entry, PointRead, Refusal, Totals};
 
 // Whether an act refuses, and why.
 #[repr(C)]
@@ -90,14 +90,12 @@ fn refused(refusal: Refusal) -> TsmAnswer
 fn given_entry(entry: Entry) -> TsmEntry
     ensures { result ≡ entry_of entry }
 {
-    let kind = entry.kind;
-    let place = entry.offset;
     TsmEntry {
-        kind: kind.byte(),
+        kind: entry.kind.byte(),
         size: entry.size,
         min: entry.min,
         max: entry.max,
-        offset: place.0 as u64,
+        offset: entry.offset.0 as u64,
     }
 }
 
@@ -120,12 +118,12 @@ pub extern "C" fn tsm_check(image: &[u8]) -> TsmChecked
     ensures { result ≡ checked_of (check_answer image.now) }
 {
     match reader::check(image) {
-        Checked::Totals { keys, points } => TsmChecked {
+        Ok(Totals { keys, points }) => TsmChecked {
             answer: accepted(),
             keys: keys as u64,
             points: points as u64,
         },
-        Checked::Refused(refusal) => TsmChecked {
+        Err(refusal) => TsmChecked {
             answer: refused(refusal),
             keys: 0,
             points: 0,
@@ -139,11 +137,11 @@ pub extern "C" fn tsm_find(image: &[u8], key: &[u8], time: i64) -> TsmFound
     ensures { result ≡ found_of (find_answer image.now key.now time) }
 {
     match finder::find(image, key, time) {
-        Found::At(entry) => TsmFound {
+        Ok(entry) => TsmFound {
             answer: accepted(),
             entry: given_entry(entry),
         },
-        Found::Refused(refusal) => TsmFound {
+        Err(refusal) => TsmFound {
             answer: refused(refusal),
             entry: no_entry(),
         },
@@ -164,12 +162,12 @@ pub extern "C" fn tsm_read_block(
     ensures values { values.new ≡ read_block_values image.now key.now time times.old values.old }
 {
     match reader::read_block(image, key, time, times, values) {
-        BlockRead::Points(entry, count) => TsmBlock {
+        Ok(BlockRead { entry, count }) => TsmBlock {
             answer: accepted(),
             entry: given_entry(entry),
-            count: count,
+            count,
         },
-        BlockRead::Refused(refusal) => TsmBlock {
+        Err(refusal) => TsmBlock {
             answer: refused(refusal),
             entry: no_entry(),
             count: 0,
@@ -183,12 +181,12 @@ pub extern "C" fn tsm_read_point(image: &[u8], key: &[u8], time: i64) -> TsmPoin
     ensures { result ≡ point_of (read_point_answer image.now key.now time) }
 {
     match reader::read_point(image, key, time) {
-        PointRead::Value(entry, value) => TsmPoint {
+        Ok(PointRead { entry, value }) => TsmPoint {
             answer: accepted(),
             entry: given_entry(entry),
-            value: value,
+            value,
         },
-        PointRead::Refused(refusal) => TsmPoint {
+        Err(refusal) => TsmPoint {
             answer: refused(refusal),
             entry: no_entry(),
             value: 0,
@@ -197,15 +195,15 @@ pub extern "C" fn tsm_read_point(image: &[u8], key: &[u8], time: i64) -> TsmPoin
 }
 
 // What an act that writes answers.
-fn given_written(written: Written) -> TsmWritten
+fn given_written(written: Result<usize, Refusal>) -> TsmWritten
     ensures { result ≡ written_of (written_says written) }
 {
     match written {
-        Written::Bytes(bytes) => TsmWritten {
+        Ok(bytes) => TsmWritten {
             answer: accepted(),
-            bytes: bytes,
+            bytes,
         },
-        Written::Refused(refusal) => TsmWritten {
+        Err(refusal) => TsmWritten {
             answer: refused(refusal),
             bytes: 0,
         },
@@ -218,8 +216,7 @@ pub extern "C" fn tsm_write(roll: &[u8], out: &mut [u8]) -> TsmWritten
     ensures answer { result ≡ written_of (write_answer roll.now out.old) }
     ensures out { out.new ≡ write_buffer roll.now out.old }
 {
-    let written = writer::write(roll, out);
-    given_written(written)
+    given_written(writer::write(roll, out))
 }
 
 // Writes an image as a roll.
@@ -228,8 +225,7 @@ pub extern "C" fn tsm_unroll(image: &[u8], out: &mut [u8]) -> TsmWritten
     ensures answer { result ≡ written_of (unroll_answer image.now out.old) }
     ensures out { out.new ≡ unroll_buffer image.now out.old }
 {
-    let written = unroller::unroll(image, out);
-    given_written(written)
+    given_written(unroller::unroll(image, out))
 }
 
 // Merges an older and a newer image into a third.
@@ -238,6 +234,5 @@ pub extern "C" fn tsm_merge(older: &[u8], newer: &[u8], out: &mut [u8]) -> TsmWr
     ensures answer { result ≡ written_of (merge_answer older.now newer.now out.old) }
     ensures out { out.new ≡ merge_buffer older.now newer.now out.old }
 {
-    let written = merge::merge(older, newer, out);
-    given_written(written)
+    given_written(merge::merge(older, newer, out))
 }

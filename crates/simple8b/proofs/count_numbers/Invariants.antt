@@ -1,11 +1,8 @@
 -- `simple8b::count_numbers` meets its contract: the numbers counted and those of the words left are all of them.
-use Prim.Native.Nat.{◌-◌}
-use lib.ListN.{length}
+use Rattle.std.proofs.Common.{◌≡◌}
+use Rattle.std.specs.Slice.Iter.{chunks_exact_rest, chunks_exact_size}
 use Rattle.simple8b.proofs.Counting.{Counted}
 use Rattle.simple8b.proofs.count_numbers.Given as goal
 
-abbrev pub invariant-loop-place : goal.invariant-loop-place
-invariant-loop-place l = Counted l.s l.at l.total l.place
-
-abbrev pub decreases-loop-place : goal.decreases-loop-place
-decreases-loop-place l = length l.s - l.place
+abbrev pub invariant-loop-word : goal.invariant-loop-word
+invariant-loop-word l = Counted l.words l.count (chunks_exact_rest l.word-iterator) × (chunks_exact_size l.word-iterator ≡ 8)

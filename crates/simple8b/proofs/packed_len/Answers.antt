@@ -1,60 +1,45 @@
 -- `simple8b::packed_len` meets its contract: the bytes counted and those of what is left are those of all.
-use mathlib.Core.Path.{ap}
-use native.Mathlib.Omega.{arith}
-use lib.ListN.{length}
-use Rattle.simple8b.proofs.Packing.{Rest, rest-most, rest-none, rest-known, rest-step, rest-length, rest_more}
+use Rattle.std.proofs.Common.{ap, arith}
+use lib.ListN.{length, length-drop}
+use borrow.Author.Tests.{true-eqb, false-eqb}
+use Rattle.section_laws.proofs.PackedWords.{packed_bytes-most}
+use Rattle.simple8b.proofs.Packing.{after-front, bytes-none, next-known, next-many, next-length, next-packs}
 use Rattle.simple8b.proofs.packed_len.Goals as goal
 
-pub loop-at-init : goal.loop-at-init
-loop-at-init c =
-    let p = c.requires in
-    let r : Rest c.args.numbers.now c.args.from c.args.to = record { before = p.0; inside = p.1; fit = p.2 } in
-    (r, r, omega arith)
-
-pub offset_bounds-numbers-at : goal.offset_bounds-numbers-at
-offset_bounds-numbers-at c = omega arith
-
-pub slice_bounds-choose-count : goal.slice_bounds-choose-count
-slice_bounds-choose-count c = omega arith
-
-pub slice_bounds-choose-start : goal.slice_bounds-choose-start
-slice_bounds-choose-start c = omega arith
-
-pub slice_bounds-choose-end : goal.slice_bounds-choose-end
-slice_bounds-choose-end c = omega arith
-
 pub selector_at-selector-requires : goal.selector_at-selector-requires
-selector_at-selector-requires c = rest-known c.loop-at.invariant.0 c.loop-at-test.true c.choose-p.result c.choose-p.ensures
+selector_at-selector-requires c =
+    next-known _ c.loop-rest.invariant.0 (false-eqb _ _ c.loop-rest-test.ensures) c.choose.result c.choose.ensures
 
-pub overflow_cast-at : goal.overflow_cast-at
-overflow_cast-at c = omega arith
+pub slice_bounds-rest-count : goal.slice_bounds-rest-count
+slice_bounds-rest-count c =
+    let m = next-many _ c.loop-rest.invariant.0 (false-eqb _ _ c.loop-rest-test.ensures) c.choose.result c.choose.ensures c.selector_at-selector.result c.selector_at-selector.ensures in
+    m.1
 
-pub overflow_add-at : goal.overflow_add-at
-overflow_add-at c =
-    let m = rest-step c.loop-at.invariant.0 c.loop-at-test.true c.choose-p.result c.choose-p.ensures c.selector_at-selector.result c.selector_at-selector.ensures in
-    omega (arith, m.1, c.ranges)
+pub slice_bounds-rest-start : goal.slice_bounds-rest-start
+slice_bounds-rest-start c =
+    let m = next-many _ c.loop-rest.invariant.0 (false-eqb _ _ c.loop-rest-test.ensures) c.choose.result c.choose.ensures c.selector_at-selector.result c.selector_at-selector.ensures in
+    m.1
 
 pub overflow_add-len : goal.overflow_add-len
 overflow_add-len c =
-    let i = c.loop-at.invariant in
-    let l = rest-length i.0 c.loop-at-test.true c.choose-p.result c.choose-p.ensures c.selector_at-selector.result c.selector_at-selector.ensures in
-    omega (arith, l, i.2, rest-most i.1, c.well_formed)
+    let i = c.loop-rest.invariant in
+    let l = next-length _ i.0 (false-eqb _ _ c.loop-rest-test.ensures) c.choose.result c.choose.ensures c.selector_at-selector.result c.selector_at-selector.ensures in
+    omega (arith, l, i.1, packed_bytes-most c.args.numbers.now, c.well_formed)
 
-pub loop-at-smaller : goal.loop-at-smaller
-loop-at-smaller c =
-    let m = rest-step c.loop-at.invariant.0 c.loop-at-test.true c.choose-p.result c.choose-p.ensures c.selector_at-selector.result c.selector_at-selector.ensures in
-    omega (arith, m.0, m.1)
+pub loop-rest-smaller : goal.loop-rest-smaller
+loop-rest-smaller c =
+    let m = next-many _ c.loop-rest.invariant.0 (false-eqb _ _ c.loop-rest-test.ensures) c.choose.result c.choose.ensures c.selector_at-selector.result c.selector_at-selector.ensures in
+    rw after-front (omega (arith, m, length-drop c.selector_at-selector.result.count c.loop-rest.rest.now))
 
-pub loop-at-preserved : goal.loop-at-preserved
-loop-at-preserved c =
-    let i = c.loop-at.invariant in
-    let l = rest-length i.0 c.loop-at-test.true c.choose-p.result c.choose-p.ensures c.selector_at-selector.result c.selector_at-selector.ensures in (
-      rest_more i.0 c.loop-at-test.true c.choose-p.result c.choose-p.ensures c.selector_at-selector.result c.selector_at-selector.ensures,
-      i.1,
-      omega (arith, l, i.2),
-    )
+pub loop-rest-preserved : goal.loop-rest-preserved
+loop-rest-preserved c =
+    let i = c.loop-rest.invariant in
+    let h = false-eqb _ _ c.loop-rest-test.ensures in
+    let l = next-length _ i.0 h c.choose.result c.choose.ensures c.selector_at-selector.result c.selector_at-selector.ensures in
+    rw after-front
+    (next-packs _ i.0 h c.choose.result c.choose.ensures c.selector_at-selector.result c.selector_at-selector.ensures, omega (arith, l, i.1))
 
 pub returns : goal.returns
 returns c =
-    let i = c.loop-at.invariant in
-    omega (arith, i.2, ap length (rest-none i.0 c.loop-at-test.false))
+    let i = c.loop-rest.invariant in
+    omega (arith, i.1, ap length (bytes-none _ (true-eqb _ _ c.loop-rest-test.ensures)))

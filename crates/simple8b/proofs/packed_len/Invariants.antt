@@ -1,15 +1,11 @@
 -- `simple8b::packed_len` meets its contract: the bytes counted and those of what is left are those of all.
-use mathlib.Core.Path.{◌≡◌}
-use Prim.Native.Nat.{◌+◌, ◌-◌}
-use lib.ListN.{length}
+use Rattle.std.proofs.Common.{◌≡◌, true, ◌+◌, length}
 use Rattle.format.specs.Simple8b.{packed_bytes}
-use Rattle.simple8b.specs.Parts.{part}
-use Rattle.simple8b.proofs.Packing.{Rest}
+use Rattle.simple8b.specs.Packs.{packs}
 use Rattle.simple8b.proofs.packed_len.Given as goal
 
-abbrev pub invariant-loop-at : goal.invariant-loop-at
-invariant-loop-at l =
-    Rest l.numbers l.at l.to × Rest l.numbers l.from l.to × (l.len + length (packed_bytes (part l.at l.to l.numbers)) ≡ length (packed_bytes (part l.from l.to l.numbers)))
+abbrev pub invariant-loop-rest : goal.invariant-loop-rest
+invariant-loop-rest l = (packs l.rest ≡ true) × (l.len + length (packed_bytes l.rest) ≡ length (packed_bytes l.numbers))
 
-abbrev pub decreases-loop-at : goal.decreases-loop-at
-decreases-loop-at l = l.to - l.at
+abbrev pub decreases-loop-rest : goal.decreases-loop-rest
+decreases-loop-rest l = length l.rest

@@ -1,65 +1,51 @@
 -- `simple8b::put_packed` meets its contract: what is left, laid here, completes what is laid from the start.
-use mathlib.Core.Path.{refl, ap, ◌∙◌}
-use Prim.Native.Nat.{ℕ}
-use native.Mathlib.Omega.{arith}
+use Rattle.std.proofs.Common.{refl, ap, ◌∙◌, ℕ, arith}
+use lib.ListN.{length-drop}
+use borrow.Author.Tests.{true-eqb, false-eqb}
 use Rattle.format.specs.Bytes.{big_bytes, splice}
-use Rattle.simple8b.proofs.Packing.{lay-end, lay-room, lay-more, rest-known, rest-fits, rest-step}
+use Rattle.simple8b.proofs.Packing.{after-front, lay-end, lay-room, lay-more, next-known, next-fits, next-many}
 use Rattle.simple8b.proofs.put_packed.Goals as goal
 
-pub loop-k-init : goal.loop-k-init
-loop-k-init c =
-    let p = c.requires in
-    record { rest = record { before = p.0; inside = p.1; fit = p.2 }; room = refl; within = p.3; size = refl; same = refl }
-
-pub offset_bounds-numbers-k : goal.offset_bounds-numbers-k
-offset_bounds-numbers-k c = omega arith
-
-pub slice_bounds-rest-count : goal.slice_bounds-rest-count
-slice_bounds-rest-count c = omega arith
-
-pub slice_bounds-rest-start : goal.slice_bounds-rest-start
-slice_bounds-rest-start c = omega arith
-
-pub slice_bounds-rest-end : goal.slice_bounds-rest-end
-slice_bounds-rest-end c = omega arith
+pub loop-rest-init : goal.loop-rest-init
+loop-rest-init c = record { fit = c.requires.0; room = refl; within = c.requires.1; size = refl; same = refl }
 
 pub pack_word-requires : goal.pack_word-requires
 pack_word-requires c =
-    let r = c.loop-k.invariant.rest in (
-      rest-known r c.loop-k-test.true c.choose-p.result c.choose-p.ensures,
-      rest-fits r c.loop-k-test.true c.choose-p.result c.choose-p.ensures,
-    )
+    let fit = c.loop-rest.invariant.fit in
+    let h = false-eqb _ _ c.loop-rest-test.ensures in
+    (next-known _ fit h c.choose-p.result c.choose-p.ensures, next-fits _ fit h c.choose-p.result c.choose-p.ensures)
 
 pub put_u64-requires : goal.put_u64-requires
-put_u64-requires c = lay-room c.loop-k.invariant c.loop-k-test.true c.choose-p.result c.choose-p.ensures
+put_u64-requires c = lay-room c.loop-rest.invariant (false-eqb _ _ c.loop-rest-test.ensures) c.choose-p.result c.choose-p.ensures
 
 pub selector_at-selector-requires : goal.selector_at-selector-requires
-selector_at-selector-requires c = rest-known c.loop-k.invariant.rest c.loop-k-test.true c.choose-p.result c.choose-p.ensures
+selector_at-selector-requires c =
+    next-known _ c.loop-rest.invariant.fit (false-eqb _ _ c.loop-rest-test.ensures) c.choose-p.result c.choose-p.ensures
 
-pub overflow_cast-k : goal.overflow_cast-k
-overflow_cast-k c = omega arith
+pub slice_bounds-rest-count : goal.slice_bounds-rest-count
+slice_bounds-rest-count c =
+    let m = next-many _ c.loop-rest.invariant.fit (false-eqb _ _ c.loop-rest-test.ensures) c.choose-p.result c.choose-p.ensures c.selector_at-selector.result c.selector_at-selector.ensures in
+    m.1
 
-pub overflow_add-k : goal.overflow_add-k
-overflow_add-k c =
-    let m = rest-step c.loop-k.invariant.rest c.loop-k-test.true c.choose-p.result c.choose-p.ensures c.selector_at-selector.result c.selector_at-selector.ensures in
-    omega (arith, m.1, c.ranges)
+pub slice_bounds-rest-start : goal.slice_bounds-rest-start
+slice_bounds-rest-start c =
+    let m = next-many _ c.loop-rest.invariant.fit (false-eqb _ _ c.loop-rest-test.ensures) c.choose-p.result c.choose-p.ensures c.selector_at-selector.result c.selector_at-selector.ensures in
+    m.1
 
 pub overflow_add-place : goal.overflow_add-place
 overflow_add-place c =
-    omega (arith, lay-room c.loop-k.invariant c.loop-k-test.true c.choose-p.result c.choose-p.ensures, c.loop-k.invariant.size, c.well_formed)
+    omega (arith, lay-room c.loop-rest.invariant (false-eqb _ _ c.loop-rest-test.ensures) c.choose-p.result c.choose-p.ensures, c.loop-rest.invariant.size, c.well_formed)
 
-pub loop-k-smaller : goal.loop-k-smaller
-loop-k-smaller c =
-    let m = rest-step c.loop-k.invariant.rest c.loop-k-test.true c.choose-p.result c.choose-p.ensures c.selector_at-selector.result c.selector_at-selector.ensures in
-    omega (arith, m.0, m.1)
+pub loop-rest-smaller : goal.loop-rest-smaller
+loop-rest-smaller c =
+    let m = next-many _ c.loop-rest.invariant.fit (false-eqb _ _ c.loop-rest-test.ensures) c.choose-p.result c.choose-p.ensures c.selector_at-selector.result c.selector_at-selector.ensures in
+    rw after-front (omega (arith, m, length-drop c.selector_at-selector.result.count c.loop-rest.rest.now))
 
-pub loop-k-preserved : goal.loop-k-preserved
-loop-k-preserved c =
-    lay-more c.loop-k.invariant c.loop-k-test.true c.choose-p.result c.choose-p.ensures c.selector_at-selector.result c.selector_at-selector.ensures _
-    (c.put_u64.ensures ∙ ap (λ (w : ℕ). splice c.loop-k.place (big_bytes 8 w) c.loop-k.out) c.pack_word.ensures)
-
-pub shape_of-out : goal.shape_of-out
-shape_of-out c = c.loop-k.invariant.size
+pub loop-rest-preserved : goal.loop-rest-preserved
+loop-rest-preserved c =
+    rw after-front
+    (lay-more c.loop-rest.invariant (false-eqb _ _ c.loop-rest-test.ensures) c.choose-p.result c.choose-p.ensures c.selector_at-selector.result c.selector_at-selector.ensures _
+    (c.put_u64.ensures ∙ ap (λ (w : ℕ). splice c.loop-rest.place (big_bytes 8 w) c.loop-rest.out) c.pack_word.ensures))
 
 pub returns : goal.returns
-returns c = let e = lay-end c.loop-k.invariant c.loop-k-test.false in record { next = e.0; laid = e.1 }
+returns c = let e = lay-end c.loop-rest.invariant (true-eqb _ _ c.loop-rest-test.ensures) in record { next = e.0; laid = e.1 }

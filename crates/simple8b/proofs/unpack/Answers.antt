@@ -1,45 +1,34 @@
--- `simple8b::unpack` meets its contract: the words passed stand in the cells, and what is left completes them.
-use mathlib.Core.Path.{◌∙◌}
-use native.Mathlib.Omega.{arith}
-use lib.ListN.{drop, length-drop}
-use Rattle.simple8b.proofs.Unpacking.{open-part, unpack-start, unpack-end, unpack-room, unpack-stop, unpack-more}
+-- `simple8b::unpack` meets its contract: the numbers of the words passed stand in the cells, and what is left completes them.
+use Rattle.std.proofs.Common.{rules, Err, ◌≡◌, ◌∙◌, arith}
+use Rattle.simple8b.proofs.Unpacking.{open-part, unpack-start, unpack-end, unpack-stop, unpack-more, word-is}
 use Rattle.simple8b.proofs.unpack.Goals as goal
 
-pub overflow_sub-s : goal.overflow_sub-s
-overflow_sub-s c = omega arith
+pub returns-then-words-ne0 : goal.returns-then-words-ne0
+returns-then-words-ne0 c = open-part _ c.if-words-ne0.true
 
-pub returns-then-s-at-ne0 : goal.returns-then-s-at-ne0
-returns-then-s-at-ne0 c =
-    let a = c.args in
-    open-part (drop a.at a.s.now) (λ e. c.if-s-at-ne0.true (omega (arith, length-drop a.at a.s.now)))
+pub loop-word-init : goal.loop-word-init
+loop-word-init c =
+    let items = c.chunks_exact-word-items.ensures in
+    rw c.into_iter-word-iterator.ensures.into_iter_gives (rw items.rest (unpack-start _ _ c.if-words-ne0.false), items.size)
 
-pub loop-place-init : goal.loop-place-init
-loop-place-init c = unpack-start _ _ _ _ (omega arith) (omega arith) c.if-s-at-ne0.false
+pub returns-in_err-count : goal.returns-in_err-count
+returns-in_err-count c =
+    let inv = c.loop-word.invariant in
+    let h = c.in-Some.ensures.steps in
+    let eight = h.1.1 ∙ inv.1 in
+    let e = unpack-stop inv.0 _ _ h.1.0 eight _ _ (rw (word-is _ eight c.read_u64.result c.read_u64.ensures) at c.in_err-count.ensures) in
+    let r : c.from_residual.result ≡ Err c.in_err-count.field-0.0 = search rules in
+    rw r e
 
-pub unpack_word-step-requires : goal.unpack_word-step-requires
-unpack_word-step-requires c =
-    let u = c.loop-place.invariant in
-    (unpack-room u c.loop-place-test.true, omega (arith, u.room, u.size))
-
-pub shape_of-numbers-in_default : goal.shape_of-numbers-in_default
-shape_of-numbers-in_default c = c.unpack_word-step.auto.numbers ∙ c.loop-place.invariant.size
-
-pub returns-in_default : goal.returns-in_default
-returns-in_default c = unpack-stop c.loop-place.invariant c.loop-place-test.true c.unpack_word-step.result c.unpack_word-step.new.numbers c.in_default.not-Count c.unpack_word-step.ensures
-
-pub overflow_add-place : goal.overflow_add-place
-overflow_add-place c = omega (arith, unpack-room c.loop-place.invariant c.loop-place-test.true)
-
-pub loop-place-smaller : goal.loop-place-smaller
-loop-place-smaller c = omega (arith, c.loop-place-test.true)
-
-pub loop-place-preserved : goal.loop-place-preserved
-loop-place-preserved c =
-    unpack-more c.loop-place.invariant c.loop-place-test.true c.in-Count.more c.unpack_word-step.new.numbers
-    (rw c.in-Count.is at c.unpack_word-step.ensures)
-
-pub shape_of-numbers : goal.shape_of-numbers
-shape_of-numbers c = c.loop-place.invariant.size
+pub loop-word-preserved : goal.loop-word-preserved
+loop-word-preserved c =
+    let inv = c.loop-word.invariant in
+    let h = c.in-Some.ensures.steps in
+    let eight = h.1.1 ∙ inv.1 in
+    (unpack-more inv.0 _ _ h.1.0 eight _ _ (rw (word-is _ eight c.read_u64.result c.read_u64.ensures) at c.in_ok-count.ensures), h.0 ∙ inv.1)
 
 pub returns : goal.returns
-returns c = unpack-end c.loop-place.invariant c.loop-place-test.false
+returns c =
+    let inv = c.loop-word.invariant in
+    let h = c.in-None.ensures.steps in
+    unpack-end inv.0 (omega (arith, h.1.0, inv.1))

@@ -1,11 +1,9 @@
--- `simple8b::unpack` meets its contract: the words passed stand in the cells, and what is left completes them.
-use Prim.Native.Nat.{◌-◌}
-use lib.ListN.{length}
+-- `simple8b::unpack` meets its contract: the numbers of the words passed stand in the cells, and what is left completes them.
+use Rattle.std.proofs.Common.{◌≡◌}
+use Rattle.std.specs.Slice.Iter.{chunks_exact_rest, chunks_exact_size}
 use Rattle.simple8b.proofs.Unpacking.{Unpacking}
 use Rattle.simple8b.proofs.unpack.Given as goal
 
-abbrev pub invariant-loop-place : goal.invariant-loop-place
-invariant-loop-place l = Unpacking l.s l.at l.initial.numbers l.count l.numbers l.total l.place
-
-abbrev pub decreases-loop-place : goal.decreases-loop-place
-decreases-loop-place l = length l.s - l.place
+abbrev pub invariant-loop-word : goal.invariant-loop-word
+invariant-loop-word l =
+    Unpacking l.words l.initial.numbers l.numbers l.count (chunks_exact_rest l.word-iterator) × (chunks_exact_size l.word-iterator ≡ 8)
