@@ -1,7 +1,7 @@
 -- `find_bitmap` meets its contract: each test that fails is the definition's own test, in its order.
 use Rattle.std.specs.Prelude.{if◌then◌else◌}
 use Rattle.std.proofs.Common.{◌≡◌, ℕ, ◌+◌, ◌-◌, ◌≤◌, ◌<◌, Bool, true, false, eqb, List, [], ◌∷◌, length, take, drop, get_or, sym, ◌∙◌, arith, length-drop, eqb-true, rules, Err}
-use lib.Seq.{take_all}
+use Rattle.format.proofs.Parts.{part-rest}
 use Rattle.format.specs.Choice.{every}
 use Rattle.format.specs.Refusals.{Outcome, ok, refused}
 use Rattle.format.specs.declared.Refusal.TheVariants.{Values}
@@ -28,10 +28,6 @@ module _ (n count next : ℕ) (s : List ℕ) (fits : (i : ℕ) → get_or s i 0 
       → read_booleans n 0 s ≡ (if padding then ok (take n (bits_of_bytes (drop next s))) else refused Values 0)
   follows same size padding e =
       after _ (bits-follow n count next (drop next s) same (omega (arith, length-drop next s, inside)) padding e)
-
--- all from a place on
-tail : (k : ℕ) (s : List ℕ) → take (length s - k) (drop k s) ≡ drop k s
-tail k s = take_all (length s - k) (drop k s) (omega (arith, length-drop k s))
 
 enough : (s : List ℕ) → eqb (length s) 0 ≡ false → 1 ≤ length s
 enough [] e = let z : ◌≡◌ {A = ℕ} 0 1 = cc in absurd (omega arith)
@@ -84,7 +80,7 @@ returns-then-not-padding_zero c =
     let is : varint_at s 1 ≡ number v.value v.next = sym c.read_varint.ensures ∙ c.in_ok-value.was in
     let within = inside c.args.n v.value v.next s (λ i. (c.type_inv.section i).fits) (enough c.args.section.now (sym c.is_empty.ensures ∙ c.if-is_empty.false)) c.if-section-ne-HEAD.false is in
     follows c.args.n v.value v.next s (λ i. (c.type_inv.section i).fits) (enough c.args.section.now (sym c.is_empty.ensures ∙ c.if-is_empty.false)) c.if-section-ne-HEAD.false is c.if-value-n.false (omega (arith, within)) false
-    (sym c.if-not-padding_zero.true ∙ (rw (tail v.next s) at c.padding_zero.ensures))
+    (sym c.if-not-padding_zero.true ∙ (rw (part-rest s v.next) at c.padding_zero.ensures))
 
 pub returns : goal.returns
 returns c =
@@ -95,5 +91,5 @@ returns c =
     let size : v.next + bitmap_size c.args.n ≡ length s = omega (arith, within) in (
       size,
       follows c.args.n v.value v.next s (λ i. (c.type_inv.section i).fits) (enough c.args.section.now (sym c.is_empty.ensures ∙ c.if-is_empty.false)) c.if-section-ne-HEAD.false is c.if-value-n.false size true
-          (sym c.if-not-padding_zero.false ∙ (rw (tail v.next s) at c.padding_zero.ensures)),
+          (sym c.if-not-padding_zero.false ∙ (rw (part-rest s v.next) at c.padding_zero.ensures)),
     )
