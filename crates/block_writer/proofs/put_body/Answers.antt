@@ -21,13 +21,9 @@ sized c = body-length c.args.kind c.args.times.now c.args.values.now c.requires.
 pub bounds-out-at : goal.bounds-out-at
 bounds-out-at c = omega (arith, c.requires.1, sized (goal.at.bounds-out-at c).Start)
 
-pub overflow_add-at : goal.overflow_add-at
-overflow_add-at c = omega (arith, c.requires.1, sized (goal.at.overflow_add-at c).Start)
-
-pub put-values_at-requires : goal.put-values_at-requires
-put-values_at-requires c =
-    let fits = c.requires.0.times-fit in
-    record { le_n = (fits.count.0, fits.count.1, fits.ascend); times_in_bounds = rw length-set (omega (arith, c.requires.1, sized (goal.at.put-values_at-requires c).Start)) }
+pub put-values_at-requires-clause-times_in_bounds : goal.put-values_at-requires-clause-times_in_bounds
+put-values_at-requires-clause-times_in_bounds c =
+    rw length-set (omega (arith, c.requires.1, sized (goal.at.put-values_at-requires-clause-times_in_bounds c).Start))
 
 pub put_values-requires : goal.put_values-requires
 put_values-requires c =
@@ -35,9 +31,6 @@ put_values-requires c =
       c.requires.0.values-fit,
       omega (arith, c.requires.1, sized (goal.at.put_values-requires c).Start, put.ensures.next, put.auto.out, length-set c.args.out.now c.args.at c.byte.result),
     )
-
-pub shape_of-out : goal.shape_of-out
-shape_of-out c = c.put_values.auto.out ∙ c.put-values_at.auto.out ∙ simp length-set
 
 pub returns : goal.returns
 returns c =
