@@ -1,5 +1,5 @@
 -- `timestamps::add_up` meets its contract: the times passed stand in the cells, and what is left completes them.
-use mathlib.Core.Path.{◌≡◌, refl, ◌∙◌}
+use mathlib.Core.Path.{◌≡◌, ◌∙◌}
 use mathlib.Core.Logic.{⊎_elim}
 use Prim.Native.Nat.{◌<◌}
 use native.Mathlib.Omega.{arith}
@@ -7,15 +7,8 @@ use lib.ListN.{length}
 use Rattle.format.specs.declared.Refusal.TheVariants.{Timestamps}
 use Rattle.timestamps.proofs.Clock.{time-stored}
 use Rattle.timestamps.proofs.Refusing.{answer-refused}
-use Rattle.timestamps.proofs.Adding.{scaled, scaled_at, scaled-length, add_start, add_nothing, add-past, add-more, add-end}
+use Rattle.timestamps.proofs.Adding.{scaled, scaled_at, scaled-length, add_nothing, add-past, add-more, add-end}
 use Rattle.timestamps.proofs.add_up.Goals as goal
-
-pub loop-i-init : goal.loop-i-init
-loop-i-init c =
-    add_start c.args.first _ _ c.wrap_sub-left.result c.ranges.first.fits c.wrap_sub-left.ensures (omega (arith, c.wrap_sub-left.type_inv))
-
-pub advance-requires : goal.advance-requires
-advance-requires c = (c.requires.1, refl)
 
 pub returns-in_default : goal.returns-in_default
 returns-in_default c =

@@ -24,9 +24,6 @@ returns-then-count-gt-MOST c t =
     let l = length-drop 9 a.section.now in
     many-raw a.e (drop 9 a.section.now) c.if-e-ne0.false (omega (arith, l, c.if-bytes-ne0.false)) t (omega (arith, l, c.if-count-gt-MOST.true))
 
-pub read_words-requires : goal.read_words-requires
-read_words-requires c = rw (length-take-le ((length c.args.section.now - 9) / 8) c.args.differences.now (omega arith)) (omega arith)
-
 -- n numbers laid over the front
 laid : (n : ℕ) (bs old part : List ℕ) → n ≤ length old → part ≡ words_of (length (take n old)) bs → part ++ drop n old ≡ overwrite (words_of n bs) old
 laid n bs old part h e = rw (e, length-take-le n old h) (ap (λ (k : ℕ). words_of n bs ++ drop k old) (sym (words_of-length n bs)))

@@ -1,5 +1,5 @@
 -- `timestamps_writer::put_differences` meets its contract: the differences passed stand in the cells, and those left complete them.
-use mathlib.Core.Path.{◌≡◌, refl, sym, ap, ap₂, ◌∙◌}
+use mathlib.Core.Path.{◌≡◌, sym, ap, ap₂, ◌∙◌}
 use Prim.Native.Nat.{◌+◌, ◌<◌}
 use native.Mathlib.Omega.{arith}
 use lib.IntN.{pos}
@@ -9,9 +9,6 @@ use Rattle.numbers.proofs.TwosComplement.{signed-pattern}
 use Rattle.timestamps_writer.proofs.Gaps.{gap-pattern, gaps-later, gaps-more, gaps-end}
 use borrow.Author.Rules.{rules}
 use Rattle.timestamps_writer.proofs.put_differences.Goals as goal
-
-pub loop-i-init : goal.loop-i-init
-loop-i-init c = record { ascend = c.requires.1; same = refl }
 
 pub loop-i-preserved : goal.loop-i-preserved
 loop-i-preserved c =

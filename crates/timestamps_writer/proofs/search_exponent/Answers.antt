@@ -1,11 +1,8 @@
 -- `timestamps_writer::search_exponent` meets its contract: where a difference is not divided, the exponent falls by one.
 use mathlib.Core.Path.{sym, ◌∙◌}
 use native.Mathlib.Omega.{arith}
-use Rattle.timestamps_writer.proofs.Exponents.{find-start, find_none, find-within, find-less, find-end}
+use Rattle.timestamps_writer.proofs.Exponents.{find_none, find-within, find-less, find-end}
 use Rattle.timestamps_writer.proofs.search_exponent.Goals as goal
-
-pub loop-e-init : goal.loop-e-init
-loop-e-init c = find-start _
 
 pub returns-in_default : goal.returns-in_default
 returns-in_default c = find-end c.loop-e.invariant (sym c.undivided.ensures ∙ c.in_default.is)
