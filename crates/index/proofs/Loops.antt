@@ -1,12 +1,11 @@
 -- A loop over the steps of a cursor whose answer is decided by what is left: what it makes of the rest, from where it stands, is what it makes of
 -- the whole index.
 --   Deciding     the state of such a loop: a sound cursor, and what the loop makes of what is left from there
---   loop-start   before the first step
 --   AfterKey, AfterEntry, After, loop-step   what each step gives the loop: fewer bytes are left, and its next state
 --   loop-open                                the same of a key that is opened
 --   AfterEntries, AfterSkip, loop-skip       the same of all entries of a key at once
-use Prim.Native.Nat.{ℕ, ◌+◌, ◌-◌, ◌≤◌, ◌<◌}
-use mathlib.Core.Path.{◌≡◌, refl, ap, sym, ◌∙◌}
+use Prim.Native.Nat.{ℕ, ◌-◌, ◌<◌}
+use mathlib.Core.Path.{◌≡◌, ap, sym, ◌∙◌}
 use mathlib.Core.List.{List, []}
 use native.Mathlib.Omega.{arith}
 use lib.ListN.{length}
@@ -14,13 +13,11 @@ use Rattle.std.specs.Prelude.{Option, Result, Ok, Err}
 use Rattle.format.specs.declared.Entry.{Entry}
 use Rattle.format.specs.declared.Fault.{Fault}
 use Rattle.format.specs.declared.ImagePlace.{ImagePlace}
-use Rattle.format.specs.Limits.{image_most, header_size}
 use Rattle.format.specs.Refusals.{ok, refused}
 use Rattle.index.specs.declared.Cursor.{Cursor}
 use Rattle.index.specs.declared.Step.{Step}
-use Rattle.index.specs.Cursors.{between, opened_at, step_of, skipped_at, past_entries, entries_at, step_at, first_cursor, rest, Sound}
+use Rattle.index.specs.Cursors.{between, opened_at, step_of, skipped_at, past_entries, entries_at, step_at, rest, Sound}
 use Rattle.index.proofs.Walks.{Remaining, before_key, before_entry, step-between}
-use Rattle.index.proofs.Sounds.{first-sound}
 use Rattle.index.proofs.Skips.{before_entries, OnEntries, on-entries, skip-refused}
 use Rattle.index.proofs.Steps.{OnKey, on-key, OnEntry, on-entry, at-end, at-refusal}
 
@@ -28,10 +25,6 @@ use Rattle.index.proofs.Steps.{OnKey, on-key, OnEntry, on-entry, at-end, at-refu
 pub record Deciding {A : Type 0} (index : List ℕ) (x : ℕ) (whole : A) (c : Cursor) (decide : Remaining → A) : Type 0 where
   pub sound : Sound index x c
   pub same : decide (rest index x c) ≡ whole
-
-pub loop-start : {A : Type 0} (index : List ℕ) (x : ℕ) (decide : Remaining → A) → x + length index ≤ image_most → header_size ≤ x
-    → Deciding index x (decide (rest index x first_cursor)) first_cursor decide
-loop-start index x decide h k = record { sound = first-sound index x h k; same = refl }
 
 -- the next key is at d: any `next` that agrees with `decide` may go on
 pub record AfterKey {A : Type 0} (index : List ℕ) (x : ℕ) (whole : A) (c : Cursor) (decide : Remaining → A) (d : Cursor) : Type 0 where

@@ -1,7 +1,6 @@
 -- A cursor stays within the index.
 --   StepSound, step-sound     a step leads to a sound cursor further on
 --   first-sound               the first cursor is sound
---   between-sound             a sound cursor is sound without its entries
 use Prim.Native.Nat.{ℕ, zero, suc, ◌+◌, ◌-◌, ◌*◌, ◌≤◌, ◌<◌, zero-le}
 use mathlib.Core.Path.{◌≡◌, refl}
 use mathlib.Core.Bool.{Bool, true, false}
@@ -19,7 +18,7 @@ use Rattle.format.specs.Refusals.{Outcome, ok, refused, faulted, require}
 use Rattle.format.specs.Index.{block_span, check_entry}
 use Rattle.index.specs.declared.Cursor.{Cursor}
 use Rattle.index.specs.declared.Step.{Step}
-use Rattle.index.specs.Cursors.{key_at, max_of, read_head, head_of, between, opened, opened_at, taken, entry_check_of, entry_at, taken_at, step_of, step_at, first_cursor, Sound}
+use Rattle.index.specs.Cursors.{key_at, max_of, read_head, head_of, opened, opened_at, taken, entry_check_of, entry_at, taken_at, step_of, step_at, first_cursor, Sound}
 use Rattle.index.proofs.Fits.{HeadFits, head-fits, BlockFits, EntryFits, entry-fits}
 use Rattle.index.proofs.Walks.{step-open, step-take}
 
@@ -73,6 +72,3 @@ module _ (index : List ℕ) (x : ℕ) (c : Cursor) (s : Sound index x c) where
 
 pub first-sound : (index : List ℕ) (x : ℕ) → x + length index ≤ image_most → 5 ≤ x → Sound index x first_cursor
 first-sound index x h k = record { image = h; entries = zero-le; key = zero-le; ended = k }
-
-pub between-sound : (index : List ℕ) (x : ℕ) (c : Cursor) → Sound index x c → Sound index x (between c.at c.ended c.key)
-between-sound index x c s = record { image = s.image; entries = omega (arith, s.entries); key = s.key; ended = s.ended }

@@ -2,7 +2,7 @@
 use Rattle.std.proofs.Common.{arith}
 use Rattle.format.specs.File.{check_frame}
 use Rattle.index.specs.Frames.{frame_at}
-use Rattle.index.proofs.FrameTests.{start_is}
+use Rattle.index.proofs.Frames.{start_is}
 use Rattle.index.proofs.check_frame.Goals as goal
 use Rattle.index.proofs.check_frame.Goals.{then-start-lt-HEADER_SIZE-via-then-start-lt-HEADER_SIZE, then-start-lt-HEADER_SIZE-via-else-start-lt-HEADER_SIZE+then-footer-start}
 
