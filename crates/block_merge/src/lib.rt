@@ -108,6 +108,7 @@ fn merge_blocks(
         newer: 0,
         filled,
     };
+    // No index counts the runs: how long each is shows only where the one before ends.
     loop {
         let left = usize::min(older.times.len() - at.older, newer.times.len() - at.newer);
         let more = usize::min(left, WRITER_BLOCK_MOST - at.filled);
