@@ -21,8 +21,7 @@ use Rattle.format.specs.Bytes.{big_endian}
 use Rattle.format.specs.Varint.{read_varint}
 use Rattle.format.specs.Form.{repeated}
 use Rattle.format.specs.Integers.{read_stored}
-use Rattle.numbers.specs.declared.Varint.TheVariants.{Number, Broken}
-use Rattle.numbers.specs.VarintAt.{varint_at}
+use Rattle.numbers.specs.VarintAt.{varint_at, number, broken as broken_at}
 use Rattle.numbers.proofs.VarintPlaces.{read_varint-at}
 use Rattle.integers.specs.Section.{stored_of, count_fits}
 use Rattle.format.proofs.Lists.{not-empty}
@@ -37,14 +36,14 @@ module _ (n : ℕ) (s : List ℕ) where
       broken n repeated (drop 1 s) 0 (rw (lt-leb 8 (length (drop 1 s)) (omega (arith, length-drop 1 s))))
 
   module _ (long : 9 ≤ length s) where
-    pub repeated-broken : (place : ℕ) → varint_at s 9 ≡ Broken place → stored_of repeated n (drop 1 s) ≡ refused Values place
+    pub repeated-broken : (place : ℕ) → varint_at s 9 ≡ broken_at place → stored_of repeated n (drop 1 s) ≡ refused Values place
     unfolding read_stored
     repeated-broken place e =
         let read : read_varint Values 9 (drop 9 s) ≡ refused Values place = rw e at (read_varint-at s 9 long Values) in
         broken n repeated (drop 1 s) place (rw (eight-there n s long, drop-drop 8 1 s, read))
 
-    module _ (v next : ℕ) (first : varint_at s 9 ≡ Number v next) (inside : next ≤ length s) where
-      pub repeated-broken-count : (place : ℕ) → varint_at s next ≡ Broken place → stored_of repeated n (drop 1 s) ≡ refused Values place
+    module _ (v next : ℕ) (first : varint_at s 9 ≡ number v next) (inside : next ≤ length s) where
+      pub repeated-broken-count : (place : ℕ) → varint_at s next ≡ broken_at place → stored_of repeated n (drop 1 s) ≡ refused Values place
       unfolding read_stored
       repeated-broken-count place e =
           let read : read_varint Values 9 (drop 9 s) ≡ ok (v, next, drop next s) = rw first at (read_varint-at s 9 long Values) in
@@ -55,9 +54,9 @@ module _ (n : ℕ) (s : List ℕ) where
 pub record Stated (s : List ℕ) (v k end : ℕ) : Type 0 where
   pub next : ℕ
   pub long : 9 ≤ length s
-  pub first : varint_at s 9 ≡ Number v next
+  pub first : varint_at s 9 ≡ number v next
   pub inside : next ≤ length s
-  pub second : varint_at s next ≡ Number k end
+  pub second : varint_at s next ≡ number k end
   pub within : end ≤ length s
 
 -- three tests that refuse alike, the last one of the count

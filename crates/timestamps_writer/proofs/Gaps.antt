@@ -16,7 +16,6 @@ use Rattle.std.proofs.Common.{append_assoc, append-nil}
 use Rattle.std.proofs.lemmas.List.{take_all, take_more_set}
 use Rattle.format.specs.Choice.{ascends}
 use Rattle.format.specs.Signed.{pattern, wrap_sub}
-use Rattle.format.specs.Timestamps.{differences_from}
 use Rattle.format.proofs.Tests.{both_left, both_right}
 use Rattle.timestamps_writer.specs.Writing.{differences_of}
 

@@ -9,15 +9,14 @@
 use mathlib.Core.Path.{◌≡◌, refl, sym, ap, ◌∙◌}
 use mathlib.Core.Bool.{Bool, true, ◌&&◌}
 use mathlib.Core.List.{List, [], ◌∷◌, ◌++◌, map, flat_map}
-use Prim.Native.Nat.{ℕ, zero, suc, ◌+◌, ◌*◌, ◌/◌, ◌^◌, ◌≤◌, ◌<◌}
+use Prim.Native.Nat.{ℕ, ◌+◌, ◌*◌, ◌/◌, ◌^◌, ◌≤◌, ◌<◌}
 use native.Mathlib.Omega.{arith}
 use borrow.Author.Tests.{leb-true}
 use lib.Dec.{leb}
 use lib.IntN.{ℤ, pos}
-use lib.ListN.{length, take, get_or, length-map, length-append}
-use lib.Seq.{length-take-le, get_or-take}
+use lib.ListN.{length, get_or, length-append}
 use Rattle.format.specs.Choice.{every, all_equal}
-use Rattle.format.specs.Bytes.{big_bytes, overwrite, splice}
+use Rattle.format.specs.Bytes.{big_bytes, splice}
 use Rattle.format.specs.Signed.{pattern}
 use Rattle.format.specs.Varint.{varint}
 use Rattle.format.specs.Simple8b.{packed_bytes}
@@ -36,7 +35,6 @@ use Rattle.section_laws.proofs.Timestamps.{times_with-repeated, times_with-packe
 use Rattle.timestamps_writer.specs.declared.Layout.{Layout}
 use Rattle.timestamps_writer.specs.declared.Layout.TheVariants.{Repeated, Packed, Raw}
 use Rattle.timestamps_writer.specs.Writing.{differences_of, LaidOut, Layable, layout_head, layout_rest, times_part}
-use Rattle.numbers.proofs.Cells.{front}
 
 -- ---- numbers that were divided
 

@@ -5,15 +5,14 @@
 --   Layable         numbers that a layout can lay
 --   layout_head, layout_rest   the bytes of a layout, but for the first time
 --   times_part       the length of a section, and then the section
-use Rattle.std.specs.Prelude.{◌≡◌, true, false, ℕ, ◌+◌, ◌*◌, ◌/◌, ◌%◌, ◌^◌, ◌≤◌, ◌<◌, ℤ, eqb, length, take, get_or, not, position, Option}
+use Rattle.std.specs.Prelude.{◌≡◌, true, false, ℕ, ◌+◌, ◌*◌, ◌/◌, ◌%◌, ◌^◌, ◌≤◌, ℤ, eqb, length, get_or, not, position, Option}
 use mathlib.Core.List.{List, [], ◌∷◌, ◌++◌, map, flat_map}
-use Rattle.format.specs.Choice.{every}
 use Rattle.format.specs.Bytes.{big_bytes}
 use Rattle.format.specs.Varint.{varint}
 use Rattle.format.specs.Simple8b.{packed_bytes}
 use Rattle.format.specs.Timestamps.{differences_from, exponent, times_section}
 use Rattle.section_laws.specs.Choices.{repeats, packable}
-use Rattle.simple8b.specs.Parts.{packs}
+use Rattle.simple8b.specs.Packs.{packs}
 use Rattle.timestamps_writer.specs.declared.Layout.{Layout}
 use Rattle.timestamps_writer.specs.declared.Layout.TheVariants.{Repeated, Packed, Raw}
 

@@ -156,7 +156,7 @@ fn lay_out(times: &[i64], cells: &mut [u64]) -> Layout
     }
     let e = find_exponent(cells);
     divide(cells, e);
-    if simple8b::packable(cells, cells.len()) {
+    if simple8b::packable(cells) {
         return Layout::Packed { e };
     }
     put_differences(times, cells);
@@ -173,7 +173,7 @@ fn rest_len(layout: Layout, numbers: &[u64]) -> usize
             numbers::varint_len(numbers[0] / numbers::power_of_ten(e))
                 + numbers::varint_len((numbers.len() + 1) as u64)
         }
-        Layout::Packed { e: _ } => simple8b::packed_len(numbers, 0, numbers.len()),
+        Layout::Packed { e: _ } => simple8b::packed_len(numbers),
         Layout::Raw => numbers.len() * WORD,
     }
 }
@@ -233,7 +233,7 @@ fn put_rest(out: &mut [u8], at: usize, layout: Layout, numbers: &[u64]) -> usize
             let next = numbers::put_varint(out, at, numbers[0] / numbers::power_of_ten(e));
             numbers::put_varint(out, next, (numbers.len() + 1) as u64)
         }
-        Layout::Packed { e: _ } => simple8b::put_packed(out, at, numbers, 0, numbers.len()),
+        Layout::Packed { e: _ } => simple8b::put_packed(out, at, numbers),
         Layout::Raw => numbers::put_words(out, at, numbers),
     }
 }

@@ -1,13 +1,10 @@
--- `integers::repeated` meets its contract, by how many numbers there are.
-use native.Mathlib.Omega.{arith}
-use mathlib.Core.Path.{sym, ◌∙◌}
-use Rattle.integers.proofs.Writing.{repeating-few, repeating-many}
+-- `integers::repeated` meets its contract: from three numbers on two follow the first.
+use Rattle.std.proofs.Common.{length, drop, arith, length-drop}
+use borrow.Author.Tests.{le-leb}
+use Rattle.simple8b.proofs.Packing.{after-front}
 use Rattle.integers.proofs.repeated.Goals as goal
 
-pub returns-then-n-lt-REPEATS_FROM : goal.returns-then-n-lt-REPEATS_FROM
-returns-then-n-lt-REPEATS_FROM c = sym (repeating-few c.args.stored.now c.args.n (omega arith) c.if-n-lt-REPEATS_FROM.true)
-
-pub returns : goal.returns
-returns c =
-    let a = c.args in
-    c.all_equal.ensures ∙ sym (repeating-many a.stored.now a.n (omega arith) (omega arith))
+pub returns-then-stored-ge-REPEATS_FROM : goal.returns-then-stored-ge-REPEATS_FROM
+returns-then-stored-ge-REPEATS_FROM c =
+    let s = c.args.stored.now in
+    rw (le-leb 2 (length (drop 1 s)) (omega (arith, length-drop 1 s))) (rw after-front at c.all_equal.ensures)

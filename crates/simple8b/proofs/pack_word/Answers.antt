@@ -30,12 +30,6 @@ loop-i-init c =
       holds = gather-start _ _ _ m f k.used;
     }
 
-pub overflow_shl-bits : goal.overflow_shl-bits
-overflow_shl-bits c = omega (arith, c.loop-i.invariant.wide)
-
-pub bounds-numbers-i : goal.bounds-numbers-i
-bounds-numbers-i c = omega (arith, c.loop-i.invariant.within, c.loop-i.invariant.many)
-
 pub overflow_add-bits : goal.overflow_add-bits
 overflow_add-bits c = record { fits = omega (arith, next_fits c.loop-i.invariant c.loop-i-test.true) }
 

@@ -1,13 +1,10 @@
 -- `simple8b::put_packed` meets its contract: what is left, laid here, completes what is laid from the start.
-use Rattle.std.proofs.Common.{refl, ap, ◌∙◌, ℕ, arith}
+use Rattle.std.proofs.Common.{ap, ◌∙◌, ℕ, arith}
 use lib.ListN.{length-drop}
 use borrow.Author.Tests.{true-eqb, false-eqb}
 use Rattle.format.specs.Bytes.{big_bytes, splice}
 use Rattle.simple8b.proofs.Packing.{after-front, lay-end, lay-room, lay-more, next-known, next-fits, next-many}
 use Rattle.simple8b.proofs.put_packed.Goals as goal
-
-pub loop-rest-init : goal.loop-rest-init
-loop-rest-init c = record { fit = c.requires.0; room = refl; within = c.requires.1; size = refl; same = refl }
 
 pub pack_word-requires : goal.pack_word-requires
 pack_word-requires c =
@@ -31,10 +28,6 @@ pub slice_bounds-rest-start : goal.slice_bounds-rest-start
 slice_bounds-rest-start c =
     let m = next-many _ c.loop-rest.invariant.fit (false-eqb _ _ c.loop-rest-test.ensures) c.choose-p.result c.choose-p.ensures c.selector_at-selector.result c.selector_at-selector.ensures in
     m.1
-
-pub overflow_add-place : goal.overflow_add-place
-overflow_add-place c =
-    omega (arith, lay-room c.loop-rest.invariant (false-eqb _ _ c.loop-rest-test.ensures) c.choose-p.result c.choose-p.ensures, c.loop-rest.invariant.size, c.well_formed)
 
 pub loop-rest-smaller : goal.loop-rest-smaller
 loop-rest-smaller c =

@@ -3,7 +3,7 @@ use mathlib.Core.Path.{◌≡◌}
 use Prim.Native.Nat.{◌*◌, ◌≤◌}
 use native.Mathlib.Nat.{sub-zero, one-le-mul}
 use native.Mathlib.Omega.{arith}
-use lib.ListN.{replicate, length-set, length-replicate, get_or, get_or-replicate}
+use lib.ListN.{replicate, length-replicate, get_or, get_or-replicate}
 use Rattle.format.specs.declared.Refusal.TheVariants.{Timestamps}
 use Rattle.timestamps.proofs.Clock.{time-stored}
 use Rattle.timestamps.proofs.Refusing.{answer-refused}
@@ -38,9 +38,6 @@ loop-i-init c =
       rw sub-zero (regular-fits (a.difference * a.scale) c.wrap_sub-room.result a.count c.requires.1 c.if-room-count.false),
     )
 
-pub bounds-times-i : goal.bounds-times-i
-bounds-times-i c = omega (arith, c.loop-i.invariant.0.size, c.loop-i-test.true, c.requires.4)
-
 pub overflow_sub-left : goal.overflow_sub-left
 overflow_sub-left c =
     (regular-step (c.args.difference * c.args.scale) c.args.count c.loop-i.i c.loop-i.left c.loop-i-test.true c.loop-i.invariant.1).0
@@ -56,12 +53,6 @@ loop-i-preserved c =
     let within = regular-step step a.count c.loop-i.i c.loop-i.left h c.loop-i.invariant.1 in
     let more = add-more c.loop-i.invariant.0 (omega (arith, n, h)) (omega (arith, x, least)) (omega (arith, x, within.0)) (omega (arith, h, c.requires.4)) in
     (rw (time-stored c.time_at.result c.loop-i.left c.time_at.ensures c.loop-i.invariant.0.small) (rw x at more), within.1)
-
-pub bounds-times-count : goal.bounds-times-count
-bounds-times-count c = omega (arith, c.loop-i.invariant.0.size, c.requires.4)
-
-pub shape_of-times : goal.shape_of-times
-shape_of-times c = simp length-set c.loop-i.invariant.0.size
 
 pub returns : goal.returns
 returns c =
