@@ -2,50 +2,42 @@
 // exported to it alone, and with one contract. Floor 4: it stands on booleans; no act stands on it.
 #![tactic(auto)]
 
-ghost use Rattle.std.specs.Prelude.{◌≡◌, ◌+◌, ◌≤◌, length, take, drop};
-ghost use Rattle.format.specs.Bytes.{overwrite};
+ghost use Rattle.std.specs.Prelude.{◌≡◌, ◌≤◌, length, take};
 ghost use Rattle.format.specs.Booleans.{bits_of_bytes, bitmap_size, read_booleans};
 ghost use Rattle.format.specs.Acts.{laid};
 ghost use Rattle.booleans.specs.Section.{answer_of};
 ghost use Rattle.bench_booleans.specs.Rows.{read_number, row_number, row_values};
 
-use booleans::{BITS, Bitmap, BooleansRead, HIGHEST};
+use booleans::{BITS, HIGHEST};
+use format::Broken;
 
-// Lays the n bits of the bytes from `start` on, each by itself.
-fn open_by_bits(section: &[u8], start: usize, n: usize, values: &mut [u64])
-    requires { (start + bitmap_size n ≤ length section.now) × (n ≤ length values.old) }
-    ensures { values.new ≡ overwrite (take n (bits_of_bytes (drop start section.now))) values.old }
+// Lays the first bits of bytes, as many as there are cells, each by itself.
+fn open_by_bits(bytes: &[u8], values: &mut [u64])
+    requires { bitmap_size (length values.old) ≤ length bytes.now }
+    ensures { values.new ≡ take (length values.old) (bits_of_bytes bytes.now) }
 {
-    let mut i = 0;
-    while i < n {
-        values[i] = ((section[start + i / BITS] >> (HIGHEST - i % BITS)) % 2) as u64;
-        i += 1;
+    for i in 0..values.len() {
+        values[i] = u64::from((bytes[i / BITS] >> (HIGHEST - i % BITS)) % 2);
     }
 }
 
-// Reads the n values of a section bit by bit, or says which place breaks it: as `booleans::read`.
-fn read_by_bits(section: &[u8], n: usize, values: &mut [u64]) -> BooleansRead
-    requires { n ≤ length values.old }
-    ensures answer { result ≡ answer_of (read_booleans n 0 section.now) }
-    ensures values { values.new ≡ laid (read_booleans n 0 section.now) values.old }
+// Reads the values of a section bit by bit, as many as there are cells, or says which place breaks it: as `booleans::read`.
+fn read_by_bits(section: &[u8], values: &mut [u64]) -> Result<(), Broken>
+    ensures answer { result ≡ answer_of (read_booleans (length values.old) 0 section.now) }
+    ensures values { values.new ≡ laid (read_booleans (length values.old) 0 section.now) values.old }
 {
-    let found = booleans::find_bitmap(section, n);
-    match found {
-        Bitmap::Broken { place } => BooleansRead::Broken { place: place },
-        Bitmap::At { start } => {
-            open_by_bits(section, start, n, values);
-            BooleansRead::Read
-        }
-    }
+    let start = booleans::find_bitmap(section, values.len())?;
+    open_by_bits(&section[start..], values);
+    Ok(())
 }
 
-// What a reading answers, as a number.
-fn number_of(read: BooleansRead) -> u8
+// What a reading answers, as a number for C.
+fn number_of(read: Result<(), Broken>) -> u8
     ensures { result ≡ read_number read }
 {
     match read {
-        BooleansRead::Read => 0,
-        BooleansRead::Broken { place } => 1,
+        Ok(()) => 0,
+        Err(_) => 1,
     }
 }
 
@@ -58,7 +50,7 @@ pub extern "C" fn bench_booleans_bytes(section: &[u8], n: usize, values: &mut [u
     if values.len() < n {
         return 2;
     }
-    number_of(booleans::read(section, n, values))
+    number_of(booleans::read(section, &mut values[..n]))
 }
 
 // A section read bit by bit, with the same answers.
@@ -70,5 +62,5 @@ pub extern "C" fn bench_booleans_bits(section: &[u8], n: usize, values: &mut [u6
     if values.len() < n {
         return 2;
     }
-    number_of(read_by_bits(section, n, values))
+    number_of(read_by_bits(section, &mut values[..n]))
 }

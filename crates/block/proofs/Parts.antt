@@ -45,11 +45,11 @@ module _ (kind : Kind) (offset next split : ℕ) (s : List ℕ) (old_times new_t
     counted : read_values kind (length ts.times) (split + offset) values_part ≡ read_values kind n (split + offset) values_part
     counted = ap (λ (m : ℕ). read_values kind m (split + offset) values_part) ts.count
 
-    pub values-refused : (fault : Fault) → Err fault ≡ faulted (λ _. tt) (read_values kind n (split + offset) values_part) → Answers (Err fault)
+    pub values-refused : (fault : Fault) → Err fault ≡ faulted (λ _. tt {0}) (read_values kind n (split + offset) values_part) → Answers (Err fault)
     values-refused fault e =
         refused-answer old_times new_times old_values new_values fault.refusal fault.place.0
         (parts-values kind offset next split s ts.times ts.read fault.refusal fault.place.0
-        (counted ∙ faulted-err (λ _. tt) (read_values kind n (split + offset) values_part) fault (sym e)))
+        (counted ∙ faulted-err (λ _. tt {0}) (read_values kind n (split + offset) values_part) fault (sym e)))
 
     pub both_read : ValuesAre kind (split + offset) n values_part old_values new_values → Answers (Ok n)
     both_read vs =

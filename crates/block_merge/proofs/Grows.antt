@@ -1,53 +1,27 @@
--- The fill grows by points of two blocks, or of one where the other side has none left at all.
---   grown-newer, grown-older   of one block
---   grown-both                 of two
-use Prim.Native.Nat.{ℕ, ◌+◌, ◌≤◌}
-use mathlib.Core.Path.{◌≡◌}
-use mathlib.Core.List.{List}
+-- The fill grows by the older block's points, where the newer side has none left at all.
+use Prim.Native.Nat.{ℕ, ◌+◌}
+use mathlib.Core.Path.{◌≡◌, sym, ap, ◌∙◌}
+use mathlib.Core.List.{List, ◌++◌, append_assoc}
 use native.Mathlib.Omega.{arith}
-use lib.IntN.{ℤ}
-use Rattle.format.specs.Limits.{writer_block_most}
+use lib.ListN.{length}
+use Rattle.format.specs.Meaning.{Point}
 use Rattle.merging.proofs.Walk.{points-end}
-use Rattle.format.proofs.Cells.{cells-none}
-use Rattle.block_merge.specs.declared.Merged.{Merged}
-use Rattle.block_merge.specs.Cells.{BlocksMoved, BlockCopied, Grown}
+use Rattle.block_merge.specs.declared.side.Points.{Points}
+use Rattle.block_merge.specs.Cells.{rest, Fill, in_cells, BlockCopied, Grown}
+use Rattle.block_merge.proofs.Moves.{rest_none}
 
-module _ (older_times : List ℤ) (older_values : List ℕ) (i_end : ℕ) (newer_times : List ℤ) (newer_values : List ℕ) (j_end : ℕ)
-    (at : Merged) (times : List ℤ) (values : List ℕ) (times' : List ℤ) (values' : List ℕ)
-    (in-older : at.older ≤ i_end) (in-newer : at.newer ≤ j_end) (in-fill : at.filled ≤ writer_block_most) where
-  pub grown-newer : (more : ℕ) → at.older ≡ i_end
-      → BlockCopied newer_times newer_values at.newer j_end times values at.filled more times' values'
-      → Grown older_times older_values i_end newer_times newer_values j_end at times values
-      (record { older = at.older; newer = at.newer + more; filled = at.filled + more }) times' values'
-  grown-newer more end h = record {
-    older = in-older;
-    newer = omega (arith, h.count.first);
-    most = omega (arith, h.count.second);
-    more = λ l k. omega (arith, h.count.some (omega (arith, end)) (omega arith));
-    same = λ ps qs none other.
-        rw (none (omega (arith, end)), cells-none older_times older_values at.older i_end (omega (arith, end))) (h.copied.same qs);
-  }
+-- the same points after both
+followed : (a b c d ps : List Point) → a ++ b ≡ c ++ d → a ++ (b ++ ps) ≡ c ++ (d ++ ps)
+followed a b c d ps e = sym (append_assoc a b ps) ∙ ap (λ (l : List Point). l ++ ps) e ∙ append_assoc c d ps
 
-  pub grown-older : (more : ℕ) → at.newer ≡ j_end
-      → BlockCopied older_times older_values at.older i_end times values at.filled more times' values'
-      → Grown older_times older_values i_end newer_times newer_values j_end at times values
-      (record { older = at.older + more; newer = at.newer; filled = at.filled + more }) times' values'
+module _ (older newer : Points) (n : ℕ) (fill fill' : Fill) where
+  pub grown-older : (more : ℕ) → length newer.times.now ≡ 0 → BlockCopied older fill n more fill'
+      → Grown older newer n fill (record { older = more; newer = 0; filled = n + more }) fill'
   grown-older more end h = record {
-    older = omega (arith, h.count.first);
-    newer = in-newer;
-    most = omega (arith, h.count.second);
-    more = λ l k. omega (arith, h.count.some (omega (arith, end)) (omega arith));
-    same = λ ps qs other none.
-        rw (none (omega (arith, end)), cells-none newer_times newer_values at.newer j_end (omega (arith, end)), points-end, points-end) (h.copied.same ps);
-  }
-
-  pub grown-both : (to : Merged) → (at.older ≡ i_end → ⊥) → (at.newer ≡ j_end → ⊥)
-      → BlocksMoved older_times older_values i_end newer_times newer_values j_end at times values to times' values'
-      → Grown older_times older_values i_end newer_times newer_values j_end at times values to times' values'
-  grown-both to older newer h = record {
-    older = h.moved.older;
-    newer = h.moved.newer;
+    older-most = h.inside;
+    newer-most = omega arith;
     most = h.most;
-    more = λ k m. h.more (omega arith) (omega arith) m;
-    same = λ ps qs x y. h.moved.same ps qs;
+    more = λ l k. omega (arith, h.some (omega (arith, end)) k);
+    count = h.count;
+    same = λ ps qs other none. rw (none end, rest_none newer 0 (omega (arith, end)), points-end (rest more older ++ ps), points-end (rest 0 older ++ ps)) (followed (in_cells (n + more) fill') _ _ _ ps h.same);
   }

@@ -1,5 +1,5 @@
 -- The laws of this crate.
 --   Moves     points go from the blocks into the fill
---   Grows     the same, of two blocks or of the last that is left
+--   Grows     the same, of the older block that is left
 pub mod Moves
 pub mod Grows

@@ -1,27 +1,43 @@
 -- Points go from the blocks into the fill.
---   laid-older, laid-newer, laid_both   the point that is laid, by the tests
+--   rest-next, rest_none     the next point of a block and those after it, and none
 --   merge-next               the next point of a merge, by which time is earlier
+--   next-most                no side passes more than one point
 --   moved_none, moved_on, next-moved   no point, two moves one after the other, and one point
---   copied_none, copied_next           no point of one block, and one point more
+--   copied-count, copied-same   points of one block
 use Prim.Native.Nat.{ℕ, ◌+◌, ◌≤◌, ◌<◌}
 use mathlib.Core.Path.{◌≡◌, refl, sym, ap, ap₂, ◌∙◌}
 use mathlib.Core.Logic.{⊎_elim}
 use mathlib.Core.Bool.{Bool, true, false}
-use mathlib.Core.List.{List, ◌∷◌, ◌++◌, append_assoc}
+use mathlib.Core.List.{List, [], ◌∷◌, ◌++◌, append_assoc}
 use native.Mathlib.Omega.{arith}
 use lib.IntN.{ℤ, pos}
-use lib.ListN.{length, get_or, set}
+use lib.ListN.{length, get_or, take, drop, drop_of_length-le, length-append, take-append-drop}
+use lib.Seq.{drop-cons, length-take-le}
+use native.Mathlib.Numerals.{add-one}
 use lib.Signed.{lt_z}
 use Rattle.format.proofs.Tests.{true-or-false, never}
 use Rattle.std.specs.Prelude.{if◌then◌else◌}
 use Rattle.format.specs.Meaning.{Point, point_of}
 use Rattle.format.specs.Merge.{merge_points}
 use Rattle.format.proofs.Orders.{time-irreflexive, time-transitive, time-total}
-use Rattle.format.proofs.Cells.{cells-next}
 use Rattle.merging.proofs.Walk.{points-older, points-newer, points-both}
-use Rattle.format.specs.Block.{cells, filled}
-use Rattle.builder.proofs.Fills.{fuller-is}
-use Rattle.block_merge.specs.Cells.{step, NextLaid, Moved, Copied}
+use Rattle.format.proofs.Points.{points-length}
+use Rattle.format.specs.Block.{points_from}
+use Rattle.builder.proofs.Fills.{points-append, fuller-is}
+use Rattle.block_merge.specs.declared.Merged.{Merged}
+use Rattle.block_merge.specs.declared.side.Points.{Points}
+use Rattle.block_merge.specs.Cells.{rest, Fill, in_cells, step, NextLaid, Moved}
+
+-- ---- the points of a block
+
+module _ (p : Points) (i : ℕ) where
+  pub rest-next : i < length p.times.now → rest i p ≡ point_of (get_or p.times.now i (pos 0)) (get_or p.values.now i 0) ∷ rest (i + 1) p
+  rest-next h =
+      let k : i < length p.values.now = omega (arith, p.same, h) in
+      rw (drop-cons p.times.now i (pos 0), drop-cons p.values.now i 0, add-one i)
+
+  pub rest_none : length p.times.now ≤ i → rest i p ≡ []
+  rest_none h = rw (drop_of_length-le p.times.now h)
 
 -- ---- the next point
 
@@ -56,103 +72,93 @@ step-most : (waits : Bool) → step waits ≤ 1
 step-most true = omega arith
 step-most false = omega arith
 
--- the point that is laid, by the two tests
-module _ (older_times : List ℤ) (older_values : List ℕ) (i : ℕ) (newer_times : List ℤ) (newer_values : List ℕ) (j : ℕ) (times : List ℤ) (values : List ℕ) (n : ℕ) where
-  abbrev first : ℤ
-  first = get_or older_times i (pos 0)
-
-  abbrev second : ℤ
-  second = get_or newer_times j (pos 0)
-
-  pub laid-older : lt_z first second ≡ true
-      → NextLaid older_times older_values i newer_times newer_values j times values n (i + 1) j (set times n first) (set values n (get_or older_values i 0))
-  laid-older h =
-      let other = not-both first second h in
-      record { older = rw other; newer = rw h (omega arith); time = rw h; value = rw h }
-
-  module _ (h : lt_z first second ≡ false) where
-    pub laid-newer : lt_z second first ≡ true
-        → NextLaid older_times older_values i newer_times newer_values j times values n i (j + 1) (set times n second) (set values n (get_or newer_values j 0))
-    laid-newer k = record { older = rw k (omega arith); newer = rw h; time = rw h; value = rw h }
-
-    pub laid_both : lt_z second first ≡ false
-        → NextLaid older_times older_values i newer_times newer_values j times values n (i + 1) (j + 1) (set times n second) (set values n (get_or newer_values j 0))
-    laid_both k = record { older = rw k; newer = rw h; time = rw h; value = rw h }
-
 -- no side passes more than one point
-pub next-most : {older_times : List ℤ} {older_values : List ℕ} {i : ℕ} {newer_times : List ℤ} {newer_values : List ℕ} {j : ℕ}
-    {times : List ℤ} {values : List ℕ} {n i' j' : ℕ} {times' : List ℤ} {values' : List ℕ}
-    → NextLaid older_times older_values i newer_times newer_values j times values n i' j' times' values' → (i' ≤ i + 1) × (j' ≤ j + 1)
-next-most {older_times} {older_values} {i} {newer_times} {newer_values} {j} h =
-    let a = get_or older_times i (pos 0) in
-    let b = get_or newer_times j (pos 0) in
-    (omega (arith, h.older, step-most (lt_z b a)), omega (arith, h.newer, step-most (lt_z a b)))
+pub next-most : {older : Points} {i : ℕ} {newer : Points} {j : ℕ} {fill : Fill} {n i' j' : ℕ} {fill' : Fill}
+    → NextLaid older i newer j fill n i' j' fill' → (i' ≤ i + 1) × (j' ≤ j + 1)
+next-most {older} {i} {newer} {j} h =
+    let a = get_or older.times.now i (pos 0) in
+    let b = get_or newer.times.now j (pos 0) in
+    (omega (arith, h.older-next, step-most (lt_z b a)), omega (arith, h.newer-next, step-most (lt_z a b)))
 
-module _ (older_times : List ℤ) (older_values : List ℕ) (i_end : ℕ) (newer_times : List ℤ) (newer_values : List ℕ) (j_end : ℕ) where
-  pub moved_none : (i j n : ℕ) (times : List ℤ) (values : List ℕ) → i ≤ i_end → j ≤ j_end
-      → Moved older_times older_values i_end newer_times newer_values j_end i j n times values i j n times values
-  moved_none i j n times values h k = record { older = h; newer = k; same = λ ps qs. refl }
+module _ (older newer : Points) where
+  pub moved_none : (at : Merged) (fill : Fill) → at.older ≤ length older.times.now → at.newer ≤ length newer.times.now → Moved older newer at fill at fill
+  moved_none at fill h k = record { older-most = h; newer-most = k; count = λ e. e; same = λ ps qs. refl }
 
-  pub moved_on : {i j n : ℕ} {times : List ℤ} {values : List ℕ} {i' j' n' : ℕ} {times' : List ℤ} {values' : List ℕ} {i'' j'' n'' : ℕ} {times'' : List ℤ} {values'' : List ℕ}
-      → Moved older_times older_values i_end newer_times newer_values j_end i j n times values i' j' n' times' values'
-      → Moved older_times older_values i_end newer_times newer_values j_end i' j' n' times' values' i'' j'' n'' times'' values''
-      → Moved older_times older_values i_end newer_times newer_values j_end i j n times values i'' j'' n'' times'' values''
-  moved_on p q = record { older = q.older; newer = q.newer; same = λ ps qs. q.same ps qs ∙ p.same ps qs }
+  pub moved_on : {at on to : Merged} {fill fill' fill'' : Fill}
+      → Moved older newer at fill on fill' → Moved older newer on fill' to fill'' → Moved older newer at fill to fill''
+  moved_on p q = record {
+    older-most = q.older-most;
+    newer-most = q.newer-most;
+    count = λ e. q.count (p.count e);
+    same = λ ps qs. q.same ps qs ∙ p.same ps qs;
+  }
 
-  module _ (i j n : ℕ) (times : List ℤ) (values : List ℕ)
-      (h : i < i_end) (in-older : i_end ≤ length older_times) (with-older : i_end ≤ length older_values)
-      (k : j < j_end) (in-newer : j_end ≤ length newer_times) (with-newer : j_end ≤ length newer_values)
-      (in-times : n < length times) (in-values : n < length values) where
+  -- a side after the step
+  stepped : (p : Points) (i : ℕ) (waits : Bool) → i < length p.times.now → (ps : List Point)
+      → rest (i + step waits) p ++ ps ≡ waiting waits (point_of (get_or p.times.now i (pos 0)) (get_or p.values.now i 0)) (rest (i + 1) p ++ ps)
+  stepped p i true more ps = let e : i + 0 ≡ i = omega arith in rw (e, rest-next p i more)
+  stepped p i false more ps = refl
+
+  module _ (i j n : ℕ) (fill : Fill) (h : i < length older.times.now) (k : j < length newer.times.now) where
     abbrev a : ℤ
-    a = get_or older_times i (pos 0)
+    a = get_or older.times.now i (pos 0)
 
     abbrev b : ℤ
-    b = get_or newer_times j (pos 0)
+    b = get_or newer.times.now j (pos 0)
 
-    -- a side after the step
-    stepped : (ts : List ℤ) (vs : List ℕ) (from to : ℕ) (waits : Bool) → from < to → to ≤ length ts → to ≤ length vs → (ps : List Point)
-        → cells (from + step waits) to ts vs ++ ps ≡ waiting waits (point_of (get_or ts from (pos 0)) (get_or vs from 0)) (cells (from + 1) to ts vs ++ ps)
-    stepped ts vs from to true more inside within ps = let e : from + 0 ≡ from = omega arith in rw (e, cells-next ts vs from to more inside within)
-    stepped ts vs from to false more inside within ps = refl
+    -- the point that is laid
+    abbrev laid : Point
+    laid = point_of (if lt_z a b then a else b) (if lt_z a b then get_or older.values.now i 0 else get_or newer.values.now j 0)
 
-    pub next-moved : {i' j' : ℕ} {times' : List ℤ} {values' : List ℕ}
-        → NextLaid older_times older_values i newer_times newer_values j times values n i' j' times' values'
-        → Moved older_times older_values i_end newer_times newer_values j_end i j n times values i' j' (n + 1) times' values'
-    next-moved laid = record {
-      older = omega (arith, laid.older, step-most (lt_z b a));
-      newer = omega (arith, laid.newer, step-most (lt_z a b));
+    one-more : {i' j' : ℕ} {fill' : Fill} → NextLaid older i newer j fill n i' j' fill' → in_cells (n + 1) fill' ≡ in_cells n fill ++ (laid ∷ [])
+    one-more next = rw (next.time, next.value) (fuller-is n fill.times fill.values _ _ next.room.in-times next.room.in-values)
+
+    pub next-moved : {i' j' : ℕ} {fill' : Fill} → NextLaid older i newer j fill n i' j' fill'
+        → Moved older newer (record { older = i; newer = j; filled = n }) fill (record { older = i'; newer = j'; filled = n + 1 }) fill'
+    next-moved next = record {
+      older-most = omega (arith, next.older-next, step-most (lt_z b a));
+      newer-most = omega (arith, next.newer-next, step-most (lt_z a b));
+      count = λ e. omega (arith, e, ap length (one-more next), length-append (in_cells n fill) (laid ∷ []));
       same = λ ps qs.
           rw (
-            laid.older,
-            laid.newer,
-            laid.time,
-            laid.value,
-            fuller-is n times values _ _ in-times in-values,
-            stepped older_times older_values i i_end (lt_z b a) h in-older with-older ps,
-            stepped newer_times newer_values j j_end (lt_z a b) k in-newer with-newer qs,
-            cells-next older_times older_values i i_end h in-older with-older,
-            cells-next newer_times newer_values j j_end k in-newer with-newer,
+            next.older-next,
+            next.newer-next,
+            one-more next,
+            stepped older i (lt_z b a) h ps,
+            stepped newer j (lt_z a b) k qs,
+            rest-next older i h,
+            rest-next newer j k,
           )
-          (append_assoc (filled n times values) _ _
-          ∙ ap (λ (l : List Point). filled n times values ++ l)
-          (sym (merge-next a (get_or older_values i 0) b (get_or newer_values j 0) (cells (i + 1) i_end older_times older_values ++ ps) (cells (j + 1) j_end newer_times newer_values ++ qs))));
+          (append_assoc (in_cells n fill) _ _
+          ∙ ap (λ (l : List Point). in_cells n fill ++ l)
+          (sym (merge-next a (get_or older.values.now i 0) b (get_or newer.values.now j 0) (rest (i + 1) older ++ ps) (rest (j + 1) newer ++ qs))));
     }
 
 -- ---- points of one block
 
-module _ (source_times : List ℤ) (source_values : List ℕ) (from end : ℕ) (times : List ℤ) (values : List ℕ) (n : ℕ) where
-  pub copied_none : Copied source_times source_values from end times values n 0 times values
-  copied_none = record { same = λ ps. let e : n + 0 ≡ n = omega arith in let k : from + 0 ≡ from = omega arith in rw (e, k) }
+-- the first points of a block were laid behind n points
+module _ (source : Points) (fill : Fill) (n more : ℕ) (inside : more ≤ length source.times.now) (in-times : n ≤ length fill.times) (in-values : n ≤ length fill.values)
+    (fill' : Fill) (times : take (n + more) fill'.times ≡ take n fill.times ++ take more source.times.now) (values : take (n + more) fill'.values ≡ take n fill.values ++ take more source.values.now) where
+  abbrev laid-points : List Point
+  laid-points = points_from (take more source.times.now) (take more source.values.now)
 
-  pub copied_next : (i : ℕ) (times' : List ℤ) (values' : List ℕ) → from + i < end → end ≤ length source_times → end ≤ length source_values
-      → n + i < length times' → n + i < length values'
-      → Copied source_times source_values from end times values n i times' values'
-      → Copied source_times source_values from end times values n (i + 1)
-      (set times' (n + i) (get_or source_times (from + i) (pos 0))) (set values' (n + i) (get_or source_values (from + i) 0))
-  copied_next i times' values' more inside within in-times in-values h = record {
-    same = λ ps.
-        let e : n + (i + 1) ≡ n + i + 1 = omega arith in
-        let k : from + (i + 1) ≡ from + i + 1 = omega arith in
-        rw (e, k, fuller-is (n + i) times' values' _ _ in-times in-values, append_assoc (filled (n + i) times' values'))
-        (ap (λ (l : List Point). filled (n + i) times' values' ++ (l ++ ps)) (sym (cells-next source_times source_values (from + i) end more inside within)) ∙ h.same ps);
-  }
+  taken-even : length (take more source.times.now) ≡ length (take more source.values.now)
+  taken-even = length-take-le more source.times.now inside ∙ sym (length-take-le more source.values.now (omega (arith, inside, source.same)))
+
+  filled-more : in_cells (n + more) fill' ≡ in_cells n fill ++ laid-points
+  filled-more =
+      let even : length (take n fill.times) ≡ length (take n fill.values) = length-take-le n fill.times in-times ∙ sym (length-take-le n fill.values in-values) in
+      ap₂ (λ (ts : List ℤ) (vs : List ℕ). points_from ts vs) times values ∙ points-append (take n fill.times) (take n fill.values) _ _ even
+
+  source-parts : laid-points ++ rest more source ≡ rest 0 source
+  source-parts =
+      sym (points-append (take more source.times.now) (take more source.values.now) (drop more source.times.now) (drop more source.values.now) taken-even)
+      ∙ ap₂ (λ (ts : List ℤ) (vs : List ℕ). points_from ts vs) (take-append-drop more source.times.now) (take-append-drop more source.values.now)
+
+  pub copied-count : length (in_cells n fill) ≡ n → length (in_cells (n + more) fill') ≡ n + more
+  copied-count e =
+      let taken = length-take-le more source.times.now inside in
+      omega (arith, e, ap length filled-more, length-append (in_cells n fill) laid-points, points-length (take more source.times.now) (take more source.values.now) (sym taken-even), taken)
+
+  pub copied-same : in_cells (n + more) fill' ++ rest more source ≡ in_cells n fill ++ rest 0 source
+  copied-same = rw filled-more (append_assoc (in_cells n fill) laid-points (rest more source) ∙ ap (λ (l : List Point). in_cells n fill ++ l) source-parts)

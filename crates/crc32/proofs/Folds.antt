@@ -1,20 +1,22 @@
 -- The register of 320 bits: a word leaves it by a multiple of the polynomial, x^300 + x^211 + x^183 + x^145 + 1, which 301 bits make zero.
---   folds      the words that the code computes stand for the register after 64 bits
---   folded     the bytes go on from the folded register as from the one before
+--   folded     the bytes go on from the words that the code computes as from the register before eight bytes
 --   narrowed   five words go by, each with what the ones before left of the register
 use mathlib.Core.Path.{◌≡◌, refl, sym, ap, ap₂, ◌∙◌}
-use mathlib.Core.List.{List, [], ◌∷◌}
+use mathlib.Core.List.{List, [], ◌∷◌, ◌++◌}
 use Prim.Native.Nat.{ℕ, ◌+◌, ◌*◌, ◌^◌, ◌-◌, ◌<◌, ◌≤◌}
-use native.Mathlib.Nat.{add-zero, add_assoc, lt_of_lt_of_le}
+use native.Mathlib.Nat.{add-zero, lt_of_lt_of_le}
 use native.Mathlib.Omega.{arith}
 use lib.Pow.{pow_mono}
 use lib.Bits.{bit_xor, xor_comm, xor_zero_r}
-use lib.ListN.{length, drop, get_or, length-drop}
+use lib.ListN.{length, drop, get_or}
+use Rattle.std.specs.Int.{w64, from_le_bytes}
+use Rattle.std.specs.List.{concat}
+use Rattle.format.specs.Bytes.{AllBytes}
 use Rattle.format.specs.Crc32.{shift_bits, crc_from}
-use Rattle.crc32.specs.Wide.{word_at, wide, Later}
+use Rattle.crc32.specs.Wide.{wide}
 use Rattle.crc32.proofs.Xor.{xor_assoc}
 use Rattle.crc32.proofs.Runs.{bits-xor, bits-shift, bits_up, bits-add}
-use Rattle.crc32.proofs.ByBytes.{eight, from-same}
+use Rattle.crc32.proofs.ByBytes.{eight, from-append, from-word, from-end, from-xor, from-same}
 use Rattle.crc32.proofs.Multiple.{terms, multiple}
 use Rattle.crc32.proofs.WideWords.{four, spread, folded_words, words}
 
@@ -53,9 +55,11 @@ met-low : (a r w : ℕ) → bit_xor (bit_xor a (r * 2 ^ 64)) w ≡ bit_xor (bit_
 met-low a r w =
     xor_assoc a (r * 2 ^ 64) w ∙ ap (bit_xor a) (xor_comm (r * 2 ^ 64) w) ∙ sym (xor_assoc a w (r * 2 ^ 64))
 
-pub folds : (a b c d e w : ℕ) → bit_xor a w < 2 ^ 64 → Later (bit_xor (wide a b c d e) w) (folded_words b c d e (bit_xor a w))
-unfolding Later wide
-folds a b c d e w h m l =
+-- the words that the code computes stand for the register after 64 bits: 300 bits later no difference is left
+folds : (a b c d e w m : ℕ) → bit_xor a w < 2 ^ 64 → 300 ≤ m
+    → shift_bits (64 + m) (bit_xor (wide a b c d e) w) ≡ shift_bits m (folded_words b c d e (bit_xor a w))
+unfolding wide
+folds a b c d e w m h l =
     let x : ℕ = bit_xor a w in
     let r : ℕ = four b c d e in
     let n : ℕ = m - 236 in
@@ -71,46 +75,46 @@ folds a b c d e w h m l =
     ∙ five-terms n x (lt_of_lt_of_le h (pow_mono le)) ∙ sym (bits_up 64 (n + 172) m (spread x) p ∙ spread-bits n x))
     ∙ sym (ap (shift_bits m) (words b c d e x) ∙ bits-xor m r (spread x * 2 ^ 64))
 
-pub folded : (r y : ℕ) (s : List ℕ) (i : ℕ) → ((n : ℕ) → get_or s n 0 < 256) → i + 48 ≤ length s → Later (bit_xor r (word_at s i)) y
-    → crc_from r (drop i s) ≡ crc_from y (drop (i + 8) s)
-unfolding Later
-folded r y s i h l f =
-    let bs : List ℕ = drop (i + 8) s in
-    let m : ℕ = 8 * length bs in
-    let x : ℕ = bit_xor r (word_at s i) in
-    let long : 300 ≤ m = rw (length-drop (i + 8) s) (omega arith) in
-    eight r s i h (omega arith) ∙ from-same bs (shift_bits 64 x) y (sym (bits-add 64 m x) ∙ f m long)
+pub folded : (a b c d e w : ℕ) (bs rest : List ℕ) → AllBytes bs → length bs ≡ 8 → w ≡ from_le_bytes w64 bs → bit_xor a w < 2 ^ 64 → 40 ≤ length rest
+    → crc_from (folded_words b c d e (bit_xor a w)) rest ≡ crc_from (wide a b c d e) (bs ++ rest)
+folded a b c d e w bs rest h l is_word fits long =
+    let r : ℕ = wide a b c d e in
+    let m : ℕ = 8 * length rest in
+    sym
+    (from-append bs rest r
+    ∙ ap (λ (x : ℕ). crc_from x rest) (eight r bs h l ∙ ap (λ (n : ℕ). shift_bits 64 (bit_xor r n)) (sym is_word))
+    ∙ from-same rest (shift_bits 64 (bit_xor r w)) (folded_words b c d e (bit_xor a w))
+    (sym (bits-add 64 m (bit_xor r w)) ∙ folds a b c d e w m fits (omega arith)))
 
 -- the low word goes by, and the others move down
-narrows : (a r v : ℕ) (s : List ℕ) (i : ℕ) {j : ℕ} → i + 8 ≡ j → ((n : ℕ) → get_or s n 0 < 256) → i + 8 ≤ length s
-    → v ≡ shift_bits 64 (bit_xor a (word_at s i)) → crc_from (bit_xor a (r * 2 ^ 64)) (drop i s) ≡ crc_from (bit_xor v r) (drop j s)
-narrows a r v s i p h l e =
-    let w : ℕ = word_at s i in
-    eight (bit_xor a (r * 2 ^ 64)) s i h l
-    ∙ ap₂ (λ (x k : ℕ). crc_from x (drop k s))
-    (ap (shift_bits 64) (met-low a r w)
-    ∙ bits-xor 64 (bit_xor a w) (r * 2 ^ 64) ∙ ap₂ bit_xor (sym e) (bits-shift 64 r))
-    p
+narrows : (a r : ℕ) (bs : List ℕ) → length bs ≡ 8 → crc_from (bit_xor a (r * 2 ^ 64)) bs ≡ bit_xor (crc_from a bs) r
+narrows a r bs l =
+    from-xor bs a (r * 2 ^ 64)
+    ∙ ap (bit_xor (crc_from a bs)) (ap (λ (n : ℕ). shift_bits (8 * n) (r * 2 ^ 64)) l ∙ bits-shift 64 r)
 
-narrows-to : (a b r v : ℕ) (s : List ℕ) (i : ℕ) {j : ℕ} → i + 8 ≡ j → ((n : ℕ) → get_or s n 0 < 256) → i + 8 ≤ length s
-    → v ≡ shift_bits 64 (bit_xor a (word_at s i))
-    → crc_from (bit_xor a (bit_xor b (r * 2 ^ 64) * 2 ^ 64)) (drop i s) ≡ crc_from (bit_xor (bit_xor v b) (r * 2 ^ 64)) (drop j s)
-narrows-to a b r v s i {j} p h l e =
-    narrows a (bit_xor b (r * 2 ^ 64)) v s i p h l e ∙ ap (λ (x : ℕ). crc_from x (drop j s)) (sym (xor_assoc v b (r * 2 ^ 64)))
+narrows-to : (a b r : ℕ) (bs : List ℕ) → length bs ≡ 8
+    → crc_from (bit_xor a (bit_xor b (r * 2 ^ 64) * 2 ^ 64)) bs ≡ bit_xor (bit_xor (crc_from a bs) b) (r * 2 ^ 64)
+narrows-to a b r bs l = narrows a (bit_xor b (r * 2 ^ 64)) bs l ∙ sym (xor_assoc (crc_from a bs) b (r * 2 ^ 64))
 
-pub narrowed : (a b c d e v w x y z : ℕ) (s : List ℕ) (i : ℕ) → ((n : ℕ) → get_or s n 0 < 256) → i + 40 ≤ length s
-    → v ≡ shift_bits 64 (bit_xor a (word_at s i))
-    → w ≡ shift_bits 64 (bit_xor (bit_xor v b) (word_at s (i + 8)))
-    → x ≡ shift_bits 64 (bit_xor (bit_xor w c) (word_at s (i + 16)))
-    → y ≡ shift_bits 64 (bit_xor (bit_xor x d) (word_at s (i + 24)))
-    → z ≡ shift_bits 64 (bit_xor (bit_xor y e) (word_at s (i + 32)))
-    → crc_from z (drop (i + 40) s) ≡ crc_from (wide a b c d e) (drop i s)
+pub narrowed : (a b c d e v w x y z : ℕ) (ws : List (List ℕ)) → length ws ≡ 5 → ((i : ℕ) → i < length ws → length (get_or ws i []) ≡ 8)
+    → v ≡ crc_from a (get_or ws 0 []) → w ≡ crc_from (bit_xor v b) (get_or ws 1 []) → x ≡ crc_from (bit_xor w c) (get_or ws 2 [])
+    → y ≡ crc_from (bit_xor x d) (get_or ws 3 []) → z ≡ crc_from (bit_xor y e) (get_or ws 4 [])
+    → z ≡ crc_from (wide a b c d e) (concat ws)
 unfolding wide
-narrowed a b c d e v w x y z s i h l ev ew ex ey ez =
+narrowed a b c d e v w x y z ws five eights ev ew ex ey ez =
     sym
-    (narrows-to a b (bit_xor c (bit_xor d (e * 2 ^ 64) * 2 ^ 64)) v s i refl h (omega arith) ev
-    ∙ narrows-to (bit_xor v b) c (bit_xor d (e * 2 ^ 64)) w s (i + 8) (add_assoc i 8 8) h (omega arith) ew
-    ∙ narrows-to (bit_xor w c) d e x s (i + 16) (add_assoc i 16 8) h (omega arith) ex
-    ∙ narrows (bit_xor x d) e y s (i + 24) (add_assoc i 24 8) h (omega arith) ey
-    ∙ eight (bit_xor y e) s (i + 32) h (omega arith)
-    ∙ ap₂ (λ (q k : ℕ). crc_from q (drop k s)) (sym ez) (add_assoc i 32 8))
+    (from-word ws 0 (wide a b c d e) (omega arith)
+    ∙ ap (λ (q : ℕ). crc_from q (concat (drop 1 ws)))
+    (narrows-to a b (bit_xor c (bit_xor d (e * 2 ^ 64) * 2 ^ 64)) (get_or ws 0 []) (eights 0 (omega arith)) ∙ ap (λ (q : ℕ). bit_xor (bit_xor q b) (bit_xor c (bit_xor d (e * 2 ^ 64) * 2 ^ 64) * 2 ^ 64)) (sym ev))
+    ∙ from-word ws 1 (bit_xor (bit_xor v b) (bit_xor c (bit_xor d (e * 2 ^ 64) * 2 ^ 64) * 2 ^ 64)) (omega arith)
+    ∙ ap (λ (q : ℕ). crc_from q (concat (drop 2 ws)))
+    (narrows-to (bit_xor v b) c (bit_xor d (e * 2 ^ 64)) (get_or ws 1 []) (eights 1 (omega arith)) ∙ ap (λ (q : ℕ). bit_xor (bit_xor q c) (bit_xor d (e * 2 ^ 64) * 2 ^ 64)) (sym ew))
+    ∙ from-word ws 2 (bit_xor (bit_xor w c) (bit_xor d (e * 2 ^ 64) * 2 ^ 64)) (omega arith)
+    ∙ ap (λ (q : ℕ). crc_from q (concat (drop 3 ws)))
+    (narrows-to (bit_xor w c) d e (get_or ws 2 []) (eights 2 (omega arith)) ∙ ap (λ (q : ℕ). bit_xor (bit_xor q d) (e * 2 ^ 64)) (sym ex))
+    ∙ from-word ws 3 (bit_xor (bit_xor x d) (e * 2 ^ 64)) (omega arith)
+    ∙ ap (λ (q : ℕ). crc_from q (concat (drop 4 ws)))
+    (narrows (bit_xor x d) e (get_or ws 3 []) (eights 3 (omega arith)) ∙ ap (λ (q : ℕ). bit_xor q e) (sym ey))
+    ∙ from-word ws 4 (bit_xor y e) (omega arith)
+    ∙ ap (λ (q : ℕ). crc_from q (concat (drop 5 ws))) (sym ez)
+    ∙ from-end ws 5 z (omega arith))

@@ -5,6 +5,7 @@
 --   entry-left, entry_read   the entries after it, and its points and those of the blocks after it
 --   entry-passed   the feed past the entry, with points of its block decoded or not
 --   block-opened   the feed at the decoded block
+use Rattle.std.specs.Prelude.{Ok}
 use Prim.Native.Nat.{ℕ, ◌≤◌, zero-le}
 use mathlib.Core.Path.{◌≡◌, refl, ap, sym, subst, ◌∙◌}
 use mathlib.Core.Bool.{true}
@@ -51,10 +52,10 @@ module _ (image : List ℕ) (f : Feed) (s : Stands image f) where
       let none = none_left index x f.cursor s.sound es ks s.index e in
       no_blocks image (blocks_left image f) (subst (λ (l : List Entry). read_blocks image l ≡ ok (blocks_left image f)) none s.blocks)
 
-  pub block-step : (f.cursor.left ≡ 0 → ⊥) → step_at index x f.cursor ≡ Step.Entry (entry_at index f.cursor) (past f.cursor (entry_at index f.cursor))
+  pub block-step : (f.cursor.left ≡ 0 → ⊥) → step_at index x f.cursor ≡ Ok (Step.Entry (entry_at index f.cursor) (past f.cursor (entry_at index f.cursor)))
   block-step more = good-take index x f.cursor s.sound es ks s.index more
 
-  module _ (v : Entry) (d : Cursor) (step : step_at index x f.cursor ≡ Step.Entry v d) where
+  module _ (v : Entry) (d : Cursor) (step : step_at index x f.cursor ≡ Ok (Step.Entry v d)) where
     -- the block can be decoded
     pub record BlockKnown : Type 0 where
       pub good : is_ok (read_block v (block_of image v)) ≡ true

@@ -1,6 +1,7 @@
 -- Counting the points of a key block by block: those counted and those to come make all of them.
 --   Counting     n points were counted between two cursors in the index
 --   counting-start, counting-further, counting-on, counting-end   step by step
+use Rattle.std.specs.Prelude.{Result, Ok}
 use Prim.Native.Nat.{ℕ, ◌+◌, ◌*◌, ◌≤◌, ◌<◌, zero-le}
 use mathlib.Core.Path.{◌≡◌, ap, ◌∙◌}
 use mathlib.Core.List.{List}
@@ -16,7 +17,7 @@ use Rattle.index.specs.declared.Step.{Step}
 use Rattle.index.specs.Frames.{index_part}
 use Rattle.index.specs.Cursors.{step_at}
 use Rattle.index.proofs.Steps.{on-entry}
-use Rattle.block.specs.declared.BlockPoints.{BlockPoints}
+use Rattle.format.specs.declared.Fault.{Fault}
 use Rattle.block.specs.Answers.{block_answer}
 use Rattle.block.proofs.Bodies.{block-few}
 use Rattle.feed.specs.declared.Feed.{Feed}
@@ -44,17 +45,17 @@ module _ (image : List ℕ) (f : Feed) (s : Stands image f) where
       omega (arith, none, k.same, ap length alone.blocks)
 
 module _ (image : List ℕ) (start : ImagePlace) (first c : Cursor) (n : ℕ) (k : Counting image start first c n) where
-  module _ (v : Entry) (d : Cursor) (step : step_at (index_part image start.0) start.0 c ≡ Step.Entry v d) where
+  module _ (v : Entry) (d : Cursor) (step : step_at (index_part image start.0) start.0 c ≡ Ok (Step.Entry v d)) where
     pub counting-further : c.at.0 < d.at.0
     counting-further = (on-entry (index_part image start.0) start.0 c k.stands.sound v d step).further
 
-    pub counting-on : (m : ℕ) → BlockPoints.Count m ≡ block_answer (read_block v (block_of image v)) → Counting image start first d (n + m)
+    pub counting-on : (m : ℕ) → Ok m ≡ block_answer (read_block v (block_of image v)) → Counting image start first d (n + m)
     counting-on m e =
         let f = at_cursor start c in
         let s = k.stands in
         let read = entry_read image f s v d step in
         let left = entry-passed image f s v d step 0 zero-le in
-        let is : BlockPoints.Count m ≡ BlockPoints.Count (length read.first) = e ∙ ap block_answer read.block in
+        let is : ◌≡◌ {A = Result ℕ Fault} (Ok m) (Ok (length read.first)) = e ∙ ap block_answer read.block in
         let many : m ≡ length read.first = cc in
         let most : length read.first ≤ 1000 = (block-few v (block_of image v) read.first read.block).few in
         let further : c.at.0 < d.at.0 = counting-further in

@@ -2,6 +2,7 @@
 --   begun, frame-not-refused        the first feed
 --   key-part                        the open key as a part of the image
 --   key-opened, no_key, key-not-entry, not-refused     the next key
+use Rattle.std.specs.Prelude.{Ok, Err}
 use Prim.Native.Nat.{ℕ, ◌+◌, ◌-◌, ◌≤◌, zero-le}
 use mathlib.Core.Path.{◌≡◌, refl, ap, sym, subst, ◌∙◌}
 use mathlib.Core.Bool.{true}
@@ -17,10 +18,10 @@ use Rattle.format.specs.Index.{IndexKey}
 use Rattle.format.specs.File.{read_blocks, read_series, read_file}
 use Rattle.index.specs.declared.Cursor.{Cursor}
 use Rattle.index.specs.declared.Step.{Step}
-use Rattle.index.specs.declared.Frame.TheVariants.{IndexAt, Refused}
+use Rattle.format.specs.declared.Fault.{Fault}
 use Rattle.index.specs.Frames.{frame_at, index_part}
 use Rattle.index.specs.Cursors.{step_at, first_cursor}
-use Rattle.index.proofs.Frames.{frame-start, frame_refused, index-refused}
+use Rattle.index.proofs.Frames.{frame-start, frame_refused}
 use Rattle.index.proofs.Rests.{keys_only}
 use Rattle.index.proofs.Walks.{key_with}
 use Rattle.index.proofs.Steps.{on-key, image-sound, index-rest, good-key, good-end, never-refused}
@@ -39,7 +40,7 @@ module _ (image : List ℕ) (good : is_ok (read_file image) ≡ true) where
   unfolding read_blocks
   none_read = refl
 
-  pub begun : (p : ImagePlace) → frame_at image ≡ IndexAt p → Begun image (at_cursor p first_cursor)
+  pub begun : (p : ImagePlace) → frame_at image ≡ Ok p → Begun image (at_cursor p first_cursor)
   begun p e =
       let s = frame-start image p e in
       let m = ok_of (read_file image) good in
@@ -56,12 +57,11 @@ module _ (image : List ℕ) (good : is_ok (read_file image) ≡ true) where
       }) in
       record { stands = left.stands; done = record { held = zero-le; left = refl }; meaning = m.1 ∙ ap ok (sym left.series) }
 
-  pub frame-not-refused : (r : Refusal) (place : ImagePlace) → frame_at image ≡ Refused r place → ⊥
-  frame-not-refused r place e =
+  pub frame-not-refused : (fault : Fault) → frame_at image ≡ Err fault → ⊥
+  frame-not-refused fault e =
       let m = ok_of (read_file image) good in
       let read = file-index image m.0 m.1 in
-      let no = index-refused image r place (frame_refused image r place e) in
-      refused-not (sym no ∙ read.1)
+      refused-not (sym (frame_refused image fault e) ∙ read.1)
 
 -- ---- the open key
 
@@ -92,7 +92,7 @@ module _ (image : List ℕ) (f : Feed) (s : Stands image f) where
   abbrev ks : List IndexKey
   ks = keys_left image f
 
-  pub key-opened : (d : Cursor) → step_at index x f.cursor ≡ Step.Key d → KeyOpened image f (at_cursor f.start d)
+  pub key-opened : (d : Cursor) → step_at index x f.cursor ≡ Ok (Step.Key d) → KeyOpened image f (at_cursor f.start d)
   unfolding key_of
   key-opened d e =
       let g = good-key index x f.cursor s.sound es ks s.index d e in
@@ -111,13 +111,13 @@ module _ (image : List ℕ) (f : Feed) (s : Stands image f) where
       }) in
       record { stands = left.stands; held = zero-le; series = rw (left.blocks, left.series) read.meaning }
 
-  pub no_key : step_at index x f.cursor ≡ Step.End → series_left image f ≡ []
+  pub no_key : step_at index x f.cursor ≡ Ok Step.End → series_left image f ≡ []
   no_key e =
       let g = good-end index x f.cursor s.sound es ks s.index e in
       no-series image (series_left image f) (subst (λ (l : List IndexKey). read_series image l ≡ ok (series_left image f)) g.1 s.series)
 
-  pub key-not-entry : Done f → (v : Entry) (d : Cursor) → step_at index x f.cursor ≡ Step.Entry v d → ⊥
+  pub key-not-entry : Done f → (v : Entry) (d : Cursor) → step_at index x f.cursor ≡ Ok (Step.Entry v d) → ⊥
   key-not-entry done v d e = entry-not index x f.cursor s.sound es ks s.index done.left v d e
 
-  pub not-refused : (r : Refusal) (place : ImagePlace) → step_at index x f.cursor ≡ Step.Refused r place → ⊥
-  not-refused r place e = never-refused index x f.cursor s.sound es ks s.index r place e
+  pub not-refused : (fault : Fault) → step_at index x f.cursor ≡ Err fault → ⊥
+  not-refused fault e = never-refused index x f.cursor s.sound es ks s.index fault e

@@ -1,5 +1,6 @@
 -- A part of a list, from place `from` up to place `to`: `take (to - from) (drop from xs)`, for which `part` stands.
 --   drop-take                          the same part, taken first
+--   part-rest                          to the end
 --   part-whole, part_none, part-next   from the start, nothing, and the first element of a part
 --   part-drop, part_length             what is left of a part, and how long it is
 --   every-next                         a test of a part, by its first element
@@ -10,7 +11,7 @@ use mathlib.Core.List.{List, [], ◌∷◌}
 use native.Mathlib.Numerals.{add-one}
 use native.Mathlib.Omega.{arith}
 use lib.ListN.{length, take, drop, get_or, length-take, length-drop}
-use lib.Seq.{drop-cons, drop-drop, take-nil}
+use lib.Seq.{drop-cons, drop-drop, take-nil, take_all}
 use Rattle.format.specs.Choice.{every}
 
 module _ {A : Type 0} where
@@ -23,6 +24,9 @@ module _ {A : Type 0} where
   module _ (xs : List A) where
     pub part-whole : (to : ℕ) → take (to - 0) (drop 0 xs) ≡ take to xs
     part-whole to = let e : to - 0 ≡ to = omega arith in rw e
+
+    pub part-rest : (from : ℕ) → take (length xs - from) (drop from xs) ≡ drop from xs
+    part-rest from = take_all (length xs - from) (drop from xs) (omega (arith, length-drop from xs))
 
     pub part_none : (from to : ℕ) → to ≤ from → take (to - from) (drop from xs) ≡ []
     part_none from to h = let e : to - from ≡ 0 = omega arith in rw e

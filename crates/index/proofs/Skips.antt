@@ -5,7 +5,7 @@
 --   skip-refused                      the same where an entry is refused
 use Prim.Native.Nat.{ℕ, zero, suc, ◌+◌, ◌-◌, ◌*◌, ◌≤◌}
 use mathlib.Core.Path.{◌≡◌, refl, ap, sym, subst, ◌∙◌}
-use mathlib.Core.List.{List, [], ◌∷◌}
+use mathlib.Core.List.{List, ◌∷◌}
 use mathlib.Core.Option.{Option, some}
 use native.Mathlib.Nat.{add_assoc, add-zero}
 use native.Mathlib.Omega.{arith}
@@ -14,15 +14,15 @@ use lib.Seq.{drop-drop}
 use lib.IntN.{ℤ}
 use Rattle.format.specs.declared.Kind.{Kind}
 use Rattle.format.specs.declared.Entry.{Entry}
-use Rattle.format.specs.declared.Refusal.{Refusal}
+use Rattle.std.specs.Prelude.{Result, Ok, Err}
+use Rattle.format.specs.declared.Fault.{Fault}
 use Rattle.format.specs.declared.ImagePlace.{ImagePlace}
 use Rattle.format.specs.Refusals.{Outcome, ok, refused, ◌>>=◌}
 use Rattle.format.specs.Index.{block_span, entry_from, check_entry, read_entries, read_keys}
 use Rattle.index.specs.declared.Cursor.{Cursor}
-use Rattle.index.specs.declared.Skipped.{Skipped}
-use Rattle.index.specs.declared.EntryCheck.{EntryCheck}
 use Rattle.index.specs.Cursors.{key_at, max_of, entry_check_of, past, entry_at, entries_left, skipped, skipped_at, past_entries, entries_from, entries_at, rest_from, rest, Sound}
 use Rattle.index.proofs.Fits.{EntryFits, entry-fits}
+use Rattle.index.proofs.Faults.{refusal_of}
 use Rattle.index.proofs.Rests.{bind_assoc, keys_only, pair}
 use Rattle.index.proofs.Walks.{Remaining, taken-with}
 use Rattle.index.proofs.Sounds.{StepSound, take-sound}
@@ -31,12 +31,12 @@ use Rattle.index.proofs.Within.{IfRead}
 -- ---- one entry, before the others
 
 -- where the last block ends, from the check of the first entry, which leads to d
-abbrev pub skip_by : List ℕ → (x : ℕ) → (d : Cursor) → EntryCheck → Skipped
-skip_by index x d EntryCheck.Good = skipped_at index x d
-skip_by index x d (EntryCheck.Refused r place) = Skipped.Refused r place
+abbrev pub skip_by : List ℕ → (x : ℕ) → (d : Cursor) → Result (Unit {0}) Fault → Result ImagePlace Fault
+skip_by index x d (Ok u) = skipped_at index x d
+skip_by index x d (Err fault) = Err fault
 
 module _ (index : List ℕ) (x : ℕ) (c : Cursor) where
-  pub skip-none : c.left ≡ 0 → skipped_at index x c ≡ Skipped.Ended c.ended
+  pub skip-none : c.left ≡ 0 → skipped_at index x c ≡ Ok c.ended
   unfolding skipped_at read_entries
   skip-none e = rw e
 
@@ -65,13 +65,13 @@ module _ (index : List ℕ) (x : ℕ) (c : Cursor) where
   step_by_lem zero e h = absurd (omega arith)
   step_by_lem (suc k) e h = ap skipped (entries-step k e) ∙ one-by check others refl
 
-  pub skip-one : 1 ≤ c.left → (e : Entry) (k : EntryCheck) → e ≡ entry_at index c → k ≡ entry_check_of (check_entry (block_span c.ended.0 x) (x + c.at.0) (max_of c.before) e)
+  pub skip-one : 1 ≤ c.left → (e : Entry) (k : Result (Unit {0}) Fault) → e ≡ entry_at index c → k ≡ entry_check_of (check_entry (block_span c.ended.0 x) (x + c.at.0) (max_of c.before) e)
       → skipped_at index x c ≡ skip_by index x (past c e) k
   skip-one h e k p q = rw (q, p) (step_by_lem c.left refl h)
 
   pub past-sound : Sound index x c → 1 ≤ c.left → (e : Entry) → e ≡ entry_at index c
-      → EntryCheck.Good ≡ entry_check_of (check_entry (block_span c.ended.0 x) (x + c.at.0) (max_of c.before) e) → Sound index x (past c e)
-  past-sound s h e p q = (subst (StepSound index x c) (taken-with index x c e EntryCheck.Good p q) (take-sound index x c s h)).0
+      → Ok tt ≡ entry_check_of (check_entry (block_span c.ended.0 x) (x + c.at.0) (max_of c.before) e) → Sound index x (past c e)
+  past-sound s h e p q = (subst (StepSound index x c) (taken-with index x c e (Ok tt) p q) (take-sound index x c s h)).0
 
 -- ---- entries that are read
 
@@ -120,7 +120,7 @@ module _ (index : List ℕ) (x : ℕ) (c : Cursor) where
       keys_only (λ r. pair es r.1)))
 
   on-by : Sound index x c → (last : ImagePlace) (r : Outcome (List Entry × ℕ)) → entries_left index x c ≡ r → IfRead (Whole x (entries_at index c)) r
-      → skipped r ≡ Skipped.Ended last → OnEntries index x c (past_entries c last)
+      → skipped r ≡ Ok last → OnEntries index x c (past_entries c last)
   on-by s last (ok p) e w q =
       let same : p.1 ≡ last.0 = cc in
       record {
@@ -131,22 +131,12 @@ module _ (index : List ℕ) (x : ℕ) (c : Cursor) where
       }
   on-by s last (refused r place) e w q = absurd (let z : ◌≡◌ {A = ℕ} 0 1 = cc in omega arith)
 
-  pub on-entries : Sound index x c → (last : ImagePlace) → skipped_at index x c ≡ Skipped.Ended last → OnEntries index x c (past_entries c last)
+  pub on-entries : Sound index x c → (last : ImagePlace) → skipped_at index x c ≡ Ok last → OnEntries index x c (past_entries c last)
   unfolding skipped_at
   on-entries s last q =
       on-by s last (entries_left index x c) refl
       (entries-whole c.kind x c.left (x + c.at.0) c.ended.0 (max_of c.before) (drop c.at.0 index) s.ended) q
 
-  -- the refusal of a key whose entries are refused
-  abbrev refusal_of : Skipped → Remaining
-  refusal_of (Skipped.Ended last) = keys_only []
-  refusal_of (Skipped.Refused r place) = refused r place.0
-
-  refused-by : (r : Refusal) (place : ImagePlace) (a : Outcome (List Entry × ℕ)) → entries_left index x c ≡ a → skipped a ≡ Skipped.Refused r place → rest index x c ≡ refused r place.0
-  unfolding rest_from
-  refused-by r place (ok p) e q = absurd (let z : ◌≡◌ {A = ℕ} 0 1 = cc in omega arith)
-  refused-by r place (refused why at) e q = rw e (ap refusal_of q)
-
-  pub skip-refused : (r : Refusal) (place : ImagePlace) → skipped_at index x c ≡ Skipped.Refused r place → rest index x c ≡ refused r place.0
-  unfolding skipped_at
-  skip-refused r place q = refused-by r place (entries_left index x c) refl q
+  pub skip-refused : (fault : Fault) → skipped_at index x c ≡ Err fault → rest index x c ≡ refused fault.refusal fault.place.0
+  unfolding skipped_at rest_from
+  skip-refused fault q = rw (refusal_of _ (entries_left index x c) fault q)

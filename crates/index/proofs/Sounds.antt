@@ -1,7 +1,6 @@
 -- A cursor stays within the index.
 --   StepSound, step-sound     a step leads to a sound cursor further on
 --   first-sound               the first cursor is sound
---   between-sound             a sound cursor is sound without its entries
 use Prim.Native.Nat.{ℕ, zero, suc, ◌+◌, ◌-◌, ◌*◌, ◌≤◌, ◌<◌, zero-le}
 use mathlib.Core.Path.{◌≡◌, refl}
 use mathlib.Core.Bool.{Bool, true, false}
@@ -12,26 +11,26 @@ use lib.Dec.{eqb}
 use Rattle.format.specs.declared.Kind.{Kind}
 use Rattle.format.specs.declared.Refusal.TheVariants.{BlockPlace}
 use Rattle.format.specs.Limits.{image_most}
-use Rattle.std.specs.Prelude.{if◌then◌else◌}
+use Rattle.std.specs.Prelude.{if◌then◌else◌, None, Result, Ok, Err}
+use Rattle.format.specs.declared.Fault.{Fault}
 use Rattle.format.specs.Choice.{is_empty}
-use Rattle.format.specs.Refusals.{Outcome, ok, refused}
+use Rattle.format.specs.Refusals.{Outcome, ok, refused, faulted, require}
 use Rattle.format.specs.Index.{block_span, check_entry}
 use Rattle.index.specs.declared.Cursor.{Cursor}
-use Rattle.index.specs.declared.Opened.{Opened}
 use Rattle.index.specs.declared.Step.{Step}
-use Rattle.index.specs.Cursors.{key_at, max_of, read_head, head_of, between, opened, opened_at, taken, entry_check_of, entry_at, taken_at, step_of, step_at, first_cursor, Sound}
+use Rattle.index.specs.Cursors.{key_at, max_of, read_head, head_of, opened, opened_at, taken, entry_check_of, entry_at, taken_at, step_of, step_at, first_cursor, Sound}
 use Rattle.index.proofs.Fits.{HeadFits, head-fits, BlockFits, EntryFits, entry-fits}
 use Rattle.index.proofs.Walks.{step-open, step-take}
 
 -- a step leads on, to a cursor within the index; an entry's block stands within x
-abbrev pub StepSound : List ℕ → (x : ℕ) → Cursor → Step → Type 0
-StepSound index x c (Step.Key d) = Sound index x d × (c.at.0 < d.at.0) × (1 ≤ d.left)
-StepSound index x c (Step.Entry e d) = Sound index x d × (c.at.0 < d.at.0) × BlockFits x c.ended.0 e
-StepSound index x c Step.End = Unit {0}
-StepSound index x c (Step.Refused r place) = Unit {0}
+abbrev pub StepSound : List ℕ → (x : ℕ) → Cursor → Result Step Fault → Type 0
+StepSound index x c (Ok (Step.Key d)) = Sound index x d × (c.at.0 < d.at.0) × (1 ≤ d.left)
+StepSound index x c (Ok (Step.Entry e d)) = Sound index x d × (c.at.0 < d.at.0) × BlockFits x c.ended.0 e
+StepSound index x c (Ok Step.End) = Unit {0}
+StepSound index x c (Err fault) = Unit {0}
 
 module _ (index : List ℕ) (x : ℕ) (c : Cursor) (s : Sound index x c) where
-  end-sound : (t : Bool) → StepSound index x c (step_of (if t then Opened.End else Opened.Refused BlockPlace (record { 0 = x + c.at.0 })))
+  end-sound : (t : Bool) → StepSound index x c (step_of (faulted (λ _. None) (require t BlockPlace (x + c.at.0))))
   end-sound true = tt
   end-sound false = tt
 
@@ -42,7 +41,7 @@ module _ (index : List ℕ) (x : ℕ) (c : Cursor) (s : Sound index x c) where
   head-sound (refused r place) f = tt
 
   open-by-sound : (t : Bool) → StepSound index x c
-      (step_of (if t then (if eqb c.ended.0 x then Opened.End else Opened.Refused BlockPlace (record { 0 = x + c.at.0 }))
+      (step_of (if t then faulted (λ _. None) (require (eqb c.ended.0 x) BlockPlace (x + c.at.0))
       else opened c (head_of (read_head (x + c.at.0) (key_at index c.key) (drop c.at.0 index)))))
   open-by-sound true = end-sound (eqb c.ended.0 x)
   open-by-sound false =
@@ -73,6 +72,3 @@ module _ (index : List ℕ) (x : ℕ) (c : Cursor) (s : Sound index x c) where
 
 pub first-sound : (index : List ℕ) (x : ℕ) → x + length index ≤ image_most → 5 ≤ x → Sound index x first_cursor
 first-sound index x h k = record { image = h; entries = zero-le; key = zero-le; ended = k }
-
-pub between-sound : (index : List ℕ) (x : ℕ) (c : Cursor) → Sound index x c → Sound index x (between c.at c.ended c.key)
-between-sound index x c s = record { image = s.image; entries = omega (arith, s.entries); key = s.key; ended = s.ended }

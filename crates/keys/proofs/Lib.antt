@@ -1,7 +1,3 @@
--- The laws of this crate: two byte strings compared from a place on.
---   Prefixes byte strings that begin alike
+-- The law of this crate.
 --   Orders   which key stands first
---   Sames    whether they are the same
-pub mod Prefixes
 pub mod Orders
-pub mod Sames

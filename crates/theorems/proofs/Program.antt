@@ -84,7 +84,7 @@ said roll m h e = go (writing m lent)
     out : {r : Outcome (List ℕ)} → image_result m lent ≡ r → program_output roll ≡ program_writes r
     out f = good-output roll m h e ∙ ap program_writes f
 
-    go : Outcome m lent → Said roll m
+    go : Writing m lent → Said roll m
     go (long over f) = too_long over (out f)
     go (short fits over f) = no_room (omega (arith, room)) (out f)
     go (given fits most f) = written (omega (arith, room)) (out f)

@@ -26,11 +26,10 @@ use Rattle.format.proofs.Cases.{same_or}
 use Rattle.format.proofs.Tests.{both_left}
 use Rattle.section_laws.proofs.Differences.{times_from-length}
 use Rattle.section_laws.proofs.WordsOfBytes.{words-length}
-use Rattle.numbers.specs.declared.Varint.TheVariants as varints
-use Rattle.numbers.specs.VarintAt.{varint_at}
+use Rattle.numbers.specs.VarintAt.{varint_at, number, broken}
 use Rattle.numbers.proofs.VarintPlaces.{read_varint-at}
-use Rattle.timestamps.specs.declared.TimesRead.{TimesRead}
-use Rattle.timestamps.specs.declared.TimesRead.TheVariants.{Count}
+use Rattle.std.specs.Prelude.{Result, Ok}
+use Rattle.format.specs.declared.Broken.{Broken}
 use Rattle.timestamps.specs.Reading.{times_answer}
 
 -- a section that is read, by its head and its differences
@@ -39,7 +38,7 @@ pub record Good (s : List ℕ) : Type 0 where
   pub differences : List ℕ
   pub found : read_differences (form_of (get_or s 0 0 / 16)) (get_or s 0 0 % 16) 0 9 (drop 9 s) ≡ ok differences
   pub few : length differences + 1 ≤ read_block_most
-  pub count : times_answer (read_times 0 s) ≡ Count (length differences + 1)
+  pub count : times_answer (read_times 0 s) ≡ Ok (length differences + 1)
 
 pub times-good : (s : List ℕ) → is_ok (read_times 0 s) ≡ true → Good s
 times-good s h =
@@ -51,7 +50,7 @@ times-good s h =
       differences = o.differences;
       found = o.found;
       few = o.times.few;
-      count = ap times_answer e ∙ ap {B = TimesRead} Count (ap length o.times.are ∙ many);
+      count = ap times_answer e ∙ ap {B = Result ℕ Broken} Ok (ap length o.times.are ∙ many);
     }
 
 -- ---- how many differences, by form
@@ -81,10 +80,10 @@ module _ (s : List ℕ) (good : Good s) where
   abbrev ds : List ℕ
   ds = good.differences
 
-  pub raw-count : form ≡ 0 → Count ((length s - 9) / 8 + 1) ≡ times_answer (read_times 0 s)
+  pub raw-count : form ≡ 0 → Ok ((length s - 9) / 8 + 1) ≡ times_answer (read_times 0 s)
   raw-count z =
       let p = raw-parts e 0 9 (drop 9 s) ds (rw z at good.found) in
-      ap {B = TimesRead} Count (omega (arith, ap length p.2, words-length (drop 9 s), length-drop 9 s)) ∙ sym good.count
+      ap {B = Result ℕ Broken} Ok (omega (arith, ap length p.2, words-length (drop 9 s), length-drop 9 s)) ∙ sym good.count
 
   module _ (z : form ≡ 1) where
     many-packed : (length (drop 9 s) % 8 ≡ 0) × (length ds ≡ length (words_numbers (drop 9 s)))
@@ -98,28 +97,28 @@ module _ (s : List ℕ) (good : Good s) where
     pub packed-few : length (words_numbers (drop 9 s)) < 1000
     packed-few = omega (arith, many-packed.1, good.few)
 
-    pub packed-count : (n : ℕ) → n ≡ length (words_numbers (drop 9 s)) → Count (n + 1) ≡ times_answer (read_times 0 s)
-    packed-count n c = ap {B = TimesRead} Count (omega (arith, c, many-packed.1)) ∙ sym good.count
+    pub packed-count : (n : ℕ) → n ≡ length (words_numbers (drop 9 s)) → Ok (n + 1) ≡ times_answer (read_times 0 s)
+    packed-count n c = ap {B = Result ℕ Broken} Ok (omega (arith, c, many-packed.1)) ∙ sym good.count
 
   module _ (n : form ≡ 0 → ⊥) (m : form ≡ 1 → ⊥) where
     found : RepeatedParts e 9 (drop 9 s) ds
     found = repeated-parts e 0 9 (drop 9 s) ds (form-by form e (drop 9 s) ds n m good.found (same_or form 2))
 
-    pub first-known : (place : ℕ) → varint_at s 9 ≡ varints.Broken place → ⊥
+    pub first-known : (place : ℕ) → varint_at s 9 ≡ broken place → ⊥
     first-known place b = refused-not (rw (read_varint-at s 9 good.long Timestamps, b) at found.first_read)
 
-    module _ (v next : ℕ) (first : varint_at s 9 ≡ varints.Number v next) (within : next ≤ length s) where
+    module _ (v next : ℕ) (first : varint_at s 9 ≡ number v next) (within : next ≤ length s) where
       second-read : read_varint Timestamps next (drop next s) ≡ ok found.second
       second-read =
           let is : (v, next, drop next s) ≡ found.first = ok-path (rw (read_varint-at s 9 good.long Timestamps, first) at found.first_read) in
           rw (← is) at found.second-read
 
-      pub second-known : (place : ℕ) → varint_at s next ≡ varints.Broken place → ⊥
+      pub second-known : (place : ℕ) → varint_at s next ≡ broken place → ⊥
       second-known place b = refused-not (rw (read_varint-at s next within Timestamps, b) at second-read)
 
-      pub repeated-count : (n end : ℕ) → varint_at s next ≡ varints.Number n end → Count n ≡ times_answer (read_times 0 s)
+      pub repeated-count : (n end : ℕ) → varint_at s next ≡ number n end → Ok n ≡ times_answer (read_times 0 s)
       repeated-count n end second =
           let is : (n, end, drop end s) ≡ found.second = ok-path (rw (read_varint-at s next within Timestamps, second) at second-read) in
           let many : n ≡ found.second.0 = ap (λ (w : ℕ × ℕ × List ℕ). w.0) is in
           let are = ap length found.are ∙ length-replicate (found.second.0 - 1) (found.first.0 * 10 ^ e) in
-          ap {B = TimesRead} Count (omega (arith, are, found.many)) ∙ sym good.count
+          ap {B = Result ℕ Broken} Ok (omega (arith, are, found.many)) ∙ sym good.count

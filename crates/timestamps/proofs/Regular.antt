@@ -1,12 +1,12 @@
 -- Times with one difference between them: how far the last of them lies says whether one passes 2^63 − 1.
 --   regular-late   the differences take more than what is left
 --   regular-step   a difference taken off
---   regular-fits, regular-wide, regular-over   the tests of the room
+--   regular-wide, regular-over   the tests of the room
 use mathlib.Core.Path.{◌≡◌, sym, ap, ◌∙◌}
 use mathlib.Core.Bool.{false}
 use mathlib.Core.Logic.{⊎_elim}
 use Prim.Native.Nat.{ℕ, zero, suc, ◌+◌, ◌-◌, ◌*◌, ◌/◌, ◌^◌, ◌≤◌, ◌<◌}
-use native.Mathlib.Nat.{zero-mul, suc-mul, mul_comm, le-div_iff_mul-le, div-lt_iff_lt-mul}
+use native.Mathlib.Nat.{zero-mul, suc-mul, mul_comm, div-lt_iff_lt-mul}
 use native.Mathlib.Omega.{arith}
 use lib.IntN.{ℤ, pos, ◌+ℤ◌}
 use lib.ListN.{replicate}
@@ -34,9 +34,6 @@ module _ (d : ℕ) where
       (ap (λ (t : ℤ). late (times_from t (replicate k d))) (sym (time-start b small)) ∙ late-from k (wrap_sub (2 ^ 63 - 1) b) (omega arith) h)
 
   module _ (room k : ℕ) (some : 1 ≤ k) where
-    pub regular-fits : d ≤ room / k → k * d ≤ room
-    regular-fits h = omega (arith, (le-div_iff_mul-le {k = k} {x = d} {y = room} some).0 h, mul_comm k d)
-
     pub regular-wide : room / k < d → room < k * d
     regular-wide h = omega (arith, (div-lt_iff_lt-mul {k = k} {x = room} {y = d} some).0 h, mul_comm k d)
 

@@ -2,96 +2,115 @@
 --   pass-more, pass-stop, pass-end   differences that a scale divides
 --   find-nothing, find_first   there is no difference, or ten does not divide the first
 --   Finding, find-start, find-less, find-end, find_none   the state of the search
-use mathlib.Core.Path.{◌≡◌, refl, sym, ap, ◌∙◌}
-use mathlib.Core.Bool.{true}
+use mathlib.Core.Path.{◌≡◌, refl, sym, ap, subst, ◌∙◌}
+use mathlib.Core.Bool.{Bool, true, false, not}
 use mathlib.Core.List.{List, [], ◌∷◌}
-use Prim.Native.Nat.{ℕ, zero, suc, ◌+◌, ◌-◌, ◌%◌, ◌^◌, ◌≤◌, ◌<◌}
-use native.Mathlib.Numerals.{add-one}
+use Prim.Native.Nat.{ℕ, zero, suc, ◌-◌, ◌%◌, ◌^◌, ◌≤◌, ◌<◌}
 use native.Mathlib.Omega.{arith}
-use borrow.Author.Tests.{eq-eqb, eqb-true}
+use borrow.Author.Tests.{eqb-true, ltb-false, not-true, not-false}
 use lib.Dec.{eqb}
-use lib.ListN.{length, take, get_or}
-use lib.Seq.{take-suc, get_or-take, length-take-le}
+use Rattle.std.proofs.Common.{nat_lt, cond}
+use Rattle.std.proofs.lemmas.List.{take_rest, take_all}
+use Rattle.std.proofs.lemmas.List.Sums.{prefix_len_passes}
+use lib.ListN.{length, take, drop, get_or, length-drop}
+use Rattle.std.specs.List.{position, prefix_len}
+use Rattle.std.specs.declared.option.Option.TheVariants.{Some, None}
+use Rattle.std.proofs.lemmas.List.Quantifiers.{position-Some}
 use Rattle.format.specs.Choice.{every}
 use Rattle.format.specs.Timestamps.{exponent}
-use Rattle.format.proofs.Tests.{both_true, every-at, every_append}
+use Rattle.format.proofs.Tests.{never, both_left, both_right, both_true, every-at}
 use Rattle.section_laws.proofs.Exponents.{divides, exponent-most, exponent-divides, exponent-largest, divides-less}
-use Rattle.timestamps_writer.specs.Writing.{Passes}
+use Rattle.timestamps_writer.specs.Writing.{undivided_place}
 
--- ---- differences that a scale divides
+-- ---- the differences that a power divides
 
--- the scale divides those before i, where it divides those before `from`
-abbrev pub Passing : (scale from : ℕ) (ds : List ℕ) (i : ℕ) → Type 0
-Passing scale from ds i = every (λ d. eqb (d % scale) 0) (take from ds) ≡ true → every (λ d. eqb (d % scale) 0) (take i ds) ≡ true
+-- a test that the first elements pass is one of those past them
+every_past : {A : Type 0} (p : A → Bool) (k : ℕ) (xs : List A) → every p (take k xs) ≡ true → every p (drop k xs) ≡ every p xs
+every_past p zero xs h = refl
+every_past p (suc k) [] h = refl
+every_past p (suc k) (x ∷ xs) h = rw (both_left (p x) _ h) (every_past p k xs (both_right (p x) _ h))
 
-module _ (scale from count : ℕ) (ds : List ℕ) (i : ℕ) (passed : Passing scale from ds i) where
-  pub pass-more : i < length ds → get_or ds i 0 % scale ≡ 0 → Passing scale from ds (i + 1)
-  pass-more h z before =
-      rw (add-one, take-suc ds i 0 h)
-      (every_append (λ d. eqb (d % scale) 0) (take i ds) (get_or ds i 0 ∷ []) (passed before) (both_true (eq-eqb (get_or ds i 0 % scale) 0 z) refl))
+-- elements that each pass
+front-passes : (p : ℕ → Bool) (k : ℕ) (xs : List ℕ) → ((i : ℕ) → i < k → not (p (get_or xs i 0)) ≡ false) → every p (take k xs) ≡ true
+front-passes p zero xs h = refl
+front-passes p (suc k) [] h = refl
+front-passes p (suc k) (x ∷ xs) h = both_true (not-false (p x) (h 0 (omega arith))) (front-passes p k xs (λ i l. h (suc i) (omega arith)))
 
-  pub pass-stop : i < count → (get_or ds i 0 % scale ≡ 0 → ⊥) → Passes scale from count ds i
-  pass-stop h n = record { within = omega arith; run = passed; stop = λ _. n }
+-- no element fails
+all-pass : (p : ℕ → Bool) (xs : List ℕ) → position (λ x. not (p x)) xs ≡ None → every p xs ≡ true
+all-pass p xs none =
+    let whole = past (prefix_len (λ x. not (not (p x))) xs) (length xs) none in
+    subst (λ (ys : List ℕ). every p ys ≡ true) (take_all _ xs whole)
+    (front-passes p (prefix_len (λ x. not (not (p x))) xs) xs (λ i l. not-true _ (prefix_len_passes (λ x. not (not (p x))) xs i 0 l)))
+  where
+    by : (t : Bool) (a : ℕ) → cond t (Some a) None ≡ None → t ≡ false
+    by true a e = cc
+    by false a e = refl
 
-  pub pass-end : i ≤ count → count ≤ i → Passes scale from count ds i
-  pass-end h k = record { within = h; run = passed; stop = λ l _. omega arith }
+    past : (a b : ℕ) → cond (nat_lt a b) (Some a) None ≡ None → b ≤ a
+    past a b e = ltb-false a b (by _ a e)
 
 -- ---- the search
 
--- the power does not divide the difference at r, so it does not divide all
-not-all : (e : ℕ) (ds : List ℕ) (count r : ℕ) → count ≤ length ds → r < count → (get_or ds r 0 % 10 ^ e ≡ 0 → ⊥) → divides e (take count ds) ≡ true → ⊥
-not-all e ds count r inside h none all =
-    none
-    (ap (λ (x : ℕ). x % 10 ^ e) (sym (get_or-take count ds r 0 h))
-    ∙ eqb-true (get_or (take count ds) r 0 % 10 ^ e) 0 (every-at (λ d. eqb (d % 10 ^ e) 0) (take count ds) r 0 all (rw (length-take-le count ds inside) h)))
-
-pub find-nothing : (ds : List ℕ) (count : ℕ) → count ≡ 0 → 12 ≡ exponent 12 (take count ds)
+pub find-nothing : (ds : List ℕ) → length ds ≡ 0 → 12 ≡ exponent 12 ds
 unfolding exponent
-find-nothing ds count none = rw none
+find-nothing [] h = refl
+find-nothing (d ∷ ds) h = absurd (omega arith)
 
-pub find_first : (ds : List ℕ) (count : ℕ) → count ≤ length ds → 0 < count → (get_or ds 0 0 % 10 ≡ 0 → ⊥) → 0 ≡ exponent 12 (take count ds)
-find_first ds count inside some none = go (exponent 12 (take count ds)) refl
+-- ten does not divide the first difference, so no larger power divides it
+pub find_first : (ds : List ℕ) → 0 < length ds → (get_or ds 0 0 % 10 ≡ 0 → ⊥) → 0 ≡ exponent 12 ds
+find_first ds some none = go (exponent 12 ds) refl
   where
-    go : (e : ℕ) → exponent 12 (take count ds) ≡ e → 0 ≡ e
+    go : (e : ℕ) → exponent 12 ds ≡ e → 0 ≡ e
     go zero same = refl
     go (suc e) same =
-        absurd (not-all 1 ds count 0 inside some none (divides-less (suc e) 1 (take count ds) (omega arith) (rw same at (exponent-divides (take count ds) 12))))
+        let ten = divides-less (suc e) 1 ds (omega arith) (rw same at (exponent-divides ds 12)) in
+        absurd (none (eqb-true (get_or ds 0 0 % 10 ^ 1) 0 (every-at (λ d. eqb (d % 10 ^ 1) 0) ds 0 0 ten some)))
 
-pub record Finding (ds : List ℕ) (count e i : ℕ) : Type 0 where
+-- e is the largest exponent that is left, and `rest` the differences that no larger one passed
+pub record Finding (ds : List ℕ) (e : ℕ) (rest : List ℕ) : Type 0 where
   pub most : e ≤ 12
-  pub within : i ≤ count
-  pub passed : divides e (take i ds) ≡ true
-  pub upper : (j : ℕ) → j ≤ 12 → divides j (take count ds) ≡ true → j ≤ e
+  pub size : length rest ≤ length ds
+  pub same : (j : ℕ) → j ≤ e → divides j rest ≡ divides j ds
+  pub upper : (j : ℕ) → j ≤ 12 → divides j ds ≡ true → j ≤ e
 
-pub find-start : (ds : List ℕ) (count : ℕ) → Finding ds count 12 0
-find-start ds count = record { most = omega arith; within = omega arith; passed = refl; upper = λ j h d. h }
+pub find-start : (ds : List ℕ) → Finding ds 12 ds
+find-start ds = record { most = omega arith; size = omega arith; same = λ j h. refl; upper = λ j h d. h }
 
-module _ {ds : List ℕ} {count e i : ℕ} (s : Finding ds count e i) where
+module _ {ds : List ℕ} {e : ℕ} {rest : List ℕ} (s : Finding ds e rest) where
   -- no exponent above e is the largest
-  high : exponent 12 (take count ds) ≤ e
-  high = s.upper (exponent 12 (take count ds)) (exponent-most (take count ds) 12) (exponent-divides (take count ds) 12)
+  high : exponent 12 ds ≤ e
+  high = s.upper (exponent 12 ds) (exponent-most ds 12) (exponent-divides ds 12)
 
-  pub find_none : e ≡ 0 → e ≡ exponent 12 (take count ds)
+  pub find_none : e ≡ 0 → 0 ≡ exponent 12 ds
   find_none z = omega (arith, high)
 
-  module _ (inside : count ≤ length ds) {r : ℕ} (p : Passes (10 ^ e) i count ds r) where
-    pub find-end : r ≡ count → e ≡ exponent 12 (take count ds)
-    find-end n =
-        let all : divides e (take count ds) ≡ true = rw n at (p.run s.passed) in
-        let low = exponent-largest (take count ds) 12 e s.most all in
-        omega (arith, high)
+  pub find-end : undivided_place (10 ^ e) rest ≡ None → e ≡ exponent 12 ds
+  find-end n =
+      let all : divides e ds ≡ true = sym (s.same e (omega arith)) ∙ all-pass (λ d. eqb (d % 10 ^ e) 0) rest n in
+      let low = exponent-largest ds 12 e s.most all in
+      omega (arith, high)
 
-    less : r < count → (j : ℕ) → j ≤ 12 → divides j (take count ds) ≡ true → j ≤ e - 1
-    less h j l d =
-        let not-e : j ≡ e → ⊥ = λ same. not-all e ds count r inside h (p.stop h) (rw same at d) in
+  module _ (place : ℕ) (found : undivided_place (10 ^ e) rest ≡ Some place) where
+    at : (place < length rest) × (not (eqb (get_or rest place 0 % 10 ^ e) 0) ≡ true) × ((k : ℕ) → k < place → not (eqb (get_or rest k 0 % 10 ^ e) 0) ≡ false)
+    at = position-Some (λ d. not (eqb (d % 10 ^ e) 0)) rest place 0 found
+
+    pub find-within : place < length rest
+    find-within = at.0
+
+    passed : divides e (take place rest) ≡ true
+    passed = front-passes (λ d. eqb (d % 10 ^ e) 0) place rest at.2
+
+    same-left : (j : ℕ) → j ≤ e - 1 → divides j (drop place rest) ≡ divides j ds
+    same-left j h =
+        every_past (λ d. eqb (d % 10 ^ j) 0) place rest (divides-less e j (take place rest) (omega arith) passed)
+        ∙ s.same j (omega arith)
+
+    less : (j : ℕ) → j ≤ 12 → divides j ds ≡ true → j ≤ e - 1
+    less j l d =
+        let not-e : j ≡ e → ⊥ =
+        λ same. never at.1 (ap not (every-at (λ d. eqb (d % 10 ^ e) 0) rest place 0 (s.same e (omega arith) ∙ rw same at d) at.0)) in
         omega (arith, s.upper j l d, not-e)
 
-    pub find-less : (r ≡ count → ⊥) → Finding ds count (e - 1) r
-    find-less n =
-        let h : r < count = omega (arith, p.within, n) in
-        record {
-          most = omega (arith, s.most);
-          within = p.within;
-          passed = divides-less e (e - 1) (take r ds) (omega arith) (p.run s.passed);
-          upper = less h;
-        }
+    pub find-less : Finding ds (e - 1) (take (length rest - place) (drop place rest))
+    find-less = rw (take_rest rest place) (record { most = omega (arith, s.most); size = omega (arith, s.size, length-drop place rest); same = same-left; upper = less })

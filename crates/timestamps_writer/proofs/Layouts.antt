@@ -1,24 +1,22 @@
 -- Our writer's section by its layout: the head, and the numbers that stand in the cells.
---   divided-front, every-mapped      numbers that were divided
+--   every-mapped                     numbers that were divided
 --   differences-length, section-is   a section by its differences
 --   layout-bytes, section-length     the bytes of a section, by layout, and how many
 --   layable, head-fits               numbers that are laid out can be laid
 --   rest-most                        a bound
---   repeated-rest                    one number repeated, as the code divides it
 --   lay-section                      the head and then the rest are laid as one
 --   part_length, lay-part            a section after its length
 use mathlib.Core.Path.{◌≡◌, refl, sym, ap, ◌∙◌}
 use mathlib.Core.Bool.{Bool, true, ◌&&◌}
 use mathlib.Core.List.{List, [], ◌∷◌, ◌++◌, map, flat_map}
-use Prim.Native.Nat.{ℕ, zero, suc, ◌+◌, ◌*◌, ◌/◌, ◌^◌, ◌≤◌, ◌<◌}
+use Prim.Native.Nat.{ℕ, ◌+◌, ◌*◌, ◌/◌, ◌^◌, ◌≤◌, ◌<◌}
 use native.Mathlib.Omega.{arith}
 use borrow.Author.Tests.{leb-true}
 use lib.Dec.{leb}
 use lib.IntN.{ℤ, pos}
-use lib.ListN.{length, take, get_or, length-map, length-append}
-use lib.Seq.{length-take-le, get_or-take}
+use lib.ListN.{length, get_or, length-append}
 use Rattle.format.specs.Choice.{every, all_equal}
-use Rattle.format.specs.Bytes.{big_bytes, overwrite, splice}
+use Rattle.format.specs.Bytes.{big_bytes, splice}
 use Rattle.format.specs.Signed.{pattern}
 use Rattle.format.specs.Varint.{varint}
 use Rattle.format.specs.Simple8b.{packed_bytes}
@@ -37,24 +35,12 @@ use Rattle.section_laws.proofs.Timestamps.{times_with-repeated, times_with-packe
 use Rattle.timestamps_writer.specs.declared.Layout.{Layout}
 use Rattle.timestamps_writer.specs.declared.Layout.TheVariants.{Repeated, Packed, Raw}
 use Rattle.timestamps_writer.specs.Writing.{differences_of, LaidOut, Layable, layout_head, layout_rest, times_part}
-use Rattle.numbers.proofs.Cells.{front}
 
 -- ---- numbers that were divided
-
-pub divided-front : (ds old new : List ℕ) (k scale : ℕ) → take k old ≡ ds → k ≤ length old → new ≡ overwrite (map (λ d. d / scale) (take k old)) old
-    → take k new ≡ map (λ d. d / scale) ds
-divided-front ds old new k scale is inside e =
-    front (map (λ d. d / scale) (take k old)) old new k e (sym (length-map (take k old) (λ d. d / scale) ∙ length-take-le k old inside))
-    ∙ ap (map (λ d. d / scale)) is
 
 pub every-mapped : (p : ℕ → Bool) (f : ℕ → ℕ) (xs : List ℕ) → every p (map f xs) ≡ every (λ x. p (f x)) xs
 every-mapped p f [] = refl
 every-mapped p f (x ∷ xs) = ap (λ (b : Bool). p (f x) && b) (every-mapped p f xs)
-
--- the first of the first numbers
-front-first : (k : ℕ) (xs : List ℕ) → 1 ≤ length (take k xs) → get_or (take k xs) 0 0 ≡ get_or xs 0 0
-front-first zero xs h = absurd (omega arith)
-front-first (suc k) xs h = get_or-take (suc k) xs 0 0 (omega arith)
 
 -- ---- the section of some times
 
@@ -123,11 +109,6 @@ rest-most (Repeated e) numbers =
     omega (arith, length-append (varint (get_or numbers 0 0 / 10 ^ e)) (varint (length numbers + 1)), varint-length-most (get_or numbers 0 0 / 10 ^ e), varint-length-most (length numbers + 1))
 rest-most (Packed e) numbers = omega (arith, packed_bytes-most numbers)
 rest-most Raw numbers = omega (arith, flat_bytes-length 8 numbers)
-
--- one number repeated, as the code divides it
-pub repeated-rest : (xs : List ℕ) (count e power : ℕ) → count ≤ length xs → 1 ≤ length (take count xs) → power ≡ 10 ^ e
-    → layout_rest (Repeated e) (take count xs) ≡ varint (get_or xs 0 0 / power) ++ varint (count + 1)
-repeated-rest xs count e power inside some is = rw (front-first count xs some, length-take-le count xs inside, ← is)
 
 -- ---- the section after its length
 

@@ -1,19 +1,18 @@
 -- How our writer lays the timestamps section.
 --   differences_of   the differences between times
---   Passes          the differences that a scale divides
+--   undivided_place  the first difference that a scale does not divide
 --   LaidOut         the layout that is chosen, and the numbers to lay
 --   Layable         numbers that a layout can lay
 --   layout_head, layout_rest   the bytes of a layout, but for the first time
 --   times_part       the length of a section, and then the section
-use Rattle.std.specs.Prelude.{◌≡◌, true, false, ℕ, ◌+◌, ◌*◌, ◌/◌, ◌%◌, ◌^◌, ◌≤◌, ◌<◌, ℤ, eqb, length, take, get_or}
+use Rattle.std.specs.Prelude.{◌≡◌, true, false, ℕ, ◌+◌, ◌*◌, ◌/◌, ◌%◌, ◌^◌, ◌≤◌, ℤ, eqb, length, get_or, not, position, Option}
 use mathlib.Core.List.{List, [], ◌∷◌, ◌++◌, map, flat_map}
-use Rattle.format.specs.Choice.{every}
 use Rattle.format.specs.Bytes.{big_bytes}
 use Rattle.format.specs.Varint.{varint}
 use Rattle.format.specs.Simple8b.{packed_bytes}
 use Rattle.format.specs.Timestamps.{differences_from, exponent, times_section}
 use Rattle.section_laws.specs.Choices.{repeats, packable}
-use Rattle.simple8b.specs.Parts.{packs}
+use Rattle.simple8b.specs.Packs.{packs}
 use Rattle.timestamps_writer.specs.declared.Layout.{Layout}
 use Rattle.timestamps_writer.specs.declared.Layout.TheVariants.{Repeated, Packed, Raw}
 
@@ -21,11 +20,9 @@ abbrev pub differences_of : List ℤ → List ℕ
 differences_of [] = []
 differences_of (t ∷ ts) = differences_from t ts
 
--- the scale divides the differences up to place r, where it divides those before `from`; at r it does not, or r is `count`
-pub record Passes (scale from count : ℕ) (ds : List ℕ) (r : ℕ) : Type 0 where
-  pub within : r ≤ count
-  pub run : every (λ d. eqb (d % scale) 0) (take from ds) ≡ true → every (λ d. eqb (d % scale) 0) (take r ds) ≡ true
-  pub stop : r < count → get_or ds r 0 % scale ≡ 0 → ⊥
+-- the place of the first difference that the scale does not divide
+abbrev pub undivided_place : (scale : ℕ) → List ℕ → Option ℕ
+undivided_place scale ds = position (λ d. not (eqb (d % scale) 0)) ds
 
 -- the layout of differences, and the numbers to lay
 abbrev pub LaidOut : Layout → (ds numbers : List ℕ) → Type 0

@@ -7,19 +7,18 @@ use Rattle.format.specs.declared.Refusal.TheVariants.{BlockHead}
 use Rattle.block.proofs.Bodies.{body-none, body-other, body-sections}
 use Rattle.block.proofs.Answers.{refused-answer}
 use Rattle.block.proofs.read_body.Goals as goal
+use Rattle.block.proofs.read_body.Goals.{then-block-eq-CHECKSUM_SIZE-via-then-block-eq-CHECKSUM_SIZE, then-block-eq-CHECKSUM_SIZE-via-else-block-eq-CHECKSUM_SIZE+then-block-byte}
 
 pub returns-then-block-eq-CHECKSUM_SIZE : goal.returns-then-block-eq-CHECKSUM_SIZE
 returns-then-block-eq-CHECKSUM_SIZE c =
     let a = c.args in
-    let h = refused-answer _ _ _ _ BlockHead (a.offset.0 + 4) (body-none a.kind a.offset.0 a.block.now c.if-block-eq-CHECKSUM_SIZE.true) in
-    record { answer = h.0; cells = h.1 }
-
-pub returns-then-block-byte : goal.returns-then-block-byte
-returns-then-block-byte c =
-    let a = c.args in
-    let more : 4 < length a.block.now = omega (arith, c.if-block-eq-CHECKSUM_SIZE.false, c.requires.0) in
     let h = refused-answer _ _ _ _ BlockHead (a.offset.0 + 4)
-    (body-other a.kind a.offset.0 a.block.now more (λ e. c.if-block-byte.true (e ∙ sym c.byte.ensures))) in
+    (elim c.then-block-eq-CHECKSUM_SIZE.branch [
+      | then-block-eq-CHECKSUM_SIZE-via-then-block-eq-CHECKSUM_SIZE w ↦ body-none a.kind a.offset.0 a.block.now w.if-block-eq-CHECKSUM_SIZE.true
+      | then-block-eq-CHECKSUM_SIZE-via-else-block-eq-CHECKSUM_SIZE+then-block-byte w ↦
+          let more : 4 < length a.block.now = omega (arith, w.if-block-eq-CHECKSUM_SIZE.false, c.requires.0) in
+          body-other a.kind a.offset.0 a.block.now more (λ e. w.if-block-byte.true (e ∙ sym w.byte.ensures))
+    ]) in
     record { answer = h.0; cells = h.1 }
 
 pub returns : goal.returns

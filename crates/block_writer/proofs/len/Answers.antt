@@ -2,7 +2,6 @@
 use mathlib.Core.Path.{◌≡◌, ap, sym, ◌∙◌}
 use Prim.Native.Nat.{ℕ, ◌+◌, ◌≤◌}
 use lib.ListN.{length}
-use lib.Seq.{take_all}
 use Rattle.format.specs.Varint.{varint}
 use Rattle.format.specs.Block.{block_bytes, points_from}
 use Rattle.block_writer.proofs.Parts.{points_bytes-length, points-most}
@@ -19,7 +18,7 @@ record Sized (c : goal.After-varint_len) : Type 0 where
 sized : (c : goal.After-varint_len) → Sized c
 sized c =
     let a = c.args in
-    let e = rw (take_all (length a.times.now) a.times.now (omega arith)) at c.len-times_len.ensures in
+    let e = c.len-times_len.ensures in
     let f = c.values_len-values_len.ensures in
     let g = c.varint_len.ensures ∙ ap (λ (n : ℕ). length (varint n)) e in
     let whole = points_bytes-length a.kind a.times.now a.values.now c.requires in
@@ -27,14 +26,6 @@ sized c =
       whole = omega (arith, whole, e, f, g);
       most = omega (arith, whole, e, f, g, points-most a.kind a.times.now a.values.now c.requires);
     }
-
-pub len-times_len-requires : goal.len-times_len-requires
-len-times_len-requires c =
-    let fits = c.requires.times-fit in
-    (fits.count.0, fits.count.1, omega arith, rw (take_all (length c.args.times.now) c.args.times.now (omega arith)) fits.ascend)
-
-pub values_len-values_len-requires : goal.values_len-values_len-requires
-values_len-values_len-requires c = c.requires.values-fit
 
 pub overflow_add-result : goal.overflow_add-result
 overflow_add-result c = omega (arith, (sized c).most)

@@ -19,20 +19,8 @@ body c = body_bytes c.args.kind (points_from c.args.times.now c.args.values.now)
 sized : (c : Start) → length (block_bytes c.args.kind (points_from c.args.times.now c.args.values.now)) ≡ 4 + length (body c)
 sized c = block-length c.args.kind (points_from c.args.times.now c.args.values.now)
 
-pub overflow_add-at : goal.overflow_add-at
-overflow_add-at c = omega (arith, c.requires.1, sized (goal.at.overflow_add-at c).Start)
-
 pub put_body-next-requires : goal.put_body-next-requires
 put_body-next-requires c = (c.requires.0, omega (arith, c.requires.1, sized (goal.at.put_body-next-requires c).Start))
-
-pub overflow_add-at-2 : goal.overflow_add-at-2
-overflow_add-at-2 c = omega (arith, c.requires.1, sized (goal.at.overflow_add-at-2 c).Start)
-
-pub slice_bounds-checksum-count : goal.slice_bounds-checksum-count
-slice_bounds-checksum-count c = omega (arith, c.put_body-next.ensures.next)
-
-pub slice_bounds-checksum-start : goal.slice_bounds-checksum-start
-slice_bounds-checksum-start c = omega (arith, c.requires.1, sized (goal.at.slice_bounds-checksum-start c).Start, c.put_body-next.ensures.next, c.put_body-next.auto.out)
 
 pub slice_bounds-checksum-end : goal.slice_bounds-checksum-end
 slice_bounds-checksum-end c = omega (arith, c.requires.1, sized (goal.at.slice_bounds-checksum-end c).Start, c.put_body-next.ensures.next, c.put_body-next.auto.out)

@@ -3,7 +3,6 @@ use Prim.Native.Nat.{ℕ, ◌+◌}
 use mathlib.Core.Path.{◌≡◌, ap, sym, ◌∙◌}
 use mathlib.Core.List.{List, ◌∷◌}
 use lib.ListN.{length, length-set}
-use lib.Seq.{take_all}
 use Rattle.format.specs.Kinds.{kind_byte}
 use Rattle.format.specs.Block.{values_section, body_bytes, points_from}
 use Rattle.format.specs.Bytes.{splice}
@@ -22,24 +21,16 @@ sized c = body-length c.args.kind c.args.times.now c.args.values.now c.requires.
 pub bounds-out-at : goal.bounds-out-at
 bounds-out-at c = omega (arith, c.requires.1, sized (goal.at.bounds-out-at c).Start)
 
-pub overflow_add-at : goal.overflow_add-at
-overflow_add-at c = omega (arith, c.requires.1, sized (goal.at.overflow_add-at c).Start)
-
-pub put-values_at-requires : goal.put-values_at-requires
-put-values_at-requires c =
-    let fits = c.requires.0.times-fit in
-    let all = take_all (length c.args.times.now) c.args.times.now (omega arith) in
-    record { le_n = (fits.count.0, fits.count.1, omega arith, rw all fits.ascend); times_in_bounds = rw (all, length-set) (omega (arith, c.requires.1, sized (goal.at.put-values_at-requires c).Start)) }
+pub put-values_at-requires-clause-times_in_bounds : goal.put-values_at-requires-clause-times_in_bounds
+put-values_at-requires-clause-times_in_bounds c =
+    rw length-set (omega (arith, c.requires.1, sized (goal.at.put-values_at-requires-clause-times_in_bounds c).Start))
 
 pub put_values-requires : goal.put_values-requires
 put_values-requires c =
     let put = c.put-values_at in (
       c.requires.0.values-fit,
-      omega (arith, c.requires.1, sized (goal.at.put_values-requires c).Start, rw (take_all (length c.args.times.now) c.args.times.now (omega arith)) at put.ensures.next, put.auto.out, length-set c.args.out.now c.args.at c.byte.result),
+      omega (arith, c.requires.1, sized (goal.at.put_values-requires c).Start, put.ensures.next, put.auto.out, length-set c.args.out.now c.args.at c.byte.result),
     )
-
-pub shape_of-out : goal.shape_of-out
-shape_of-out c = c.put_values.auto.out ∙ c.put-values_at.auto.out ∙ simp length-set
 
 pub returns : goal.returns
 returns c =
@@ -48,15 +39,14 @@ returns c =
     let times = times_part a.times.now in
     let values = values_section a.kind a.values.now in
     let first = c.put-values_at in
-    let done = rw (take_all (length a.times.now) a.times.now (omega arith)) at first.ensures in
     let last = c.put_values in
     let byte = c.byte.result in
     let whole = body-parts a.kind a.times.now a.values.now c.requires.0.same in
     let stored : first.new.out ≡ splice a.at (kind_byte a.kind ∷ times) out =
-    done.laid ∙ splice-store a.at byte times out (omega (arith, c.requires.1, sized (goal.at.returns c).Start))
+    first.ensures.laid ∙ splice-store a.at byte times out (omega (arith, c.requires.1, sized (goal.at.returns c).Start))
     ∙ ap (λ (k : ℕ). splice a.at (k ∷ times) out) c.byte.ensures in record {
-      next = omega (arith, last.ensures.next, done.next, sized (goal.at.returns c).Start);
+      next = omega (arith, last.ensures.next, first.ensures.next, sized (goal.at.returns c).Start);
       laid = laid-two a.at first.result (kind_byte a.kind ∷ times) values out first.new.out last.new.out
-          (omega (arith, c.requires.1)) (omega (arith, done.next)) stored last.ensures.laid
+          (omega (arith, c.requires.1)) (omega (arith, first.ensures.next)) stored last.ensures.laid
           ∙ ap (λ (bs : List ℕ). splice a.at bs out) (sym whole);
     }

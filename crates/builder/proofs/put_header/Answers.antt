@@ -1,21 +1,21 @@
 -- `put_header` meets its contract: the magic bytes, and the version after them.
-use mathlib.Core.Path.{◌≡◌, refl, ap, ◌∙◌}
-use mathlib.Core.List.{List, [], ◌∷◌}
 use Prim.Native.Nat.{ℕ}
-use Rattle.format.specs.Bytes.{big_bytes, splice}
+use mathlib.Core.Path.{◌≡◌, refl, ap, ◌∙◌}
+use mathlib.Core.List.{List, [], ◌∷◌, ◌++◌}
+use lib.ListN.{length, drop, length-append, length-drop}
+use Rattle.format.specs.Bytes.{splice}
 use Rattle.format.specs.File.{magic, version}
 use Rattle.format.proofs.Splices.{splice-set, laid-two}
 use native.Mathlib.Omega.{arith}
 use Rattle.builder.proofs.put_header.Goals as goal
 
-magic-is : big_bytes 4 0x16D1_16D1 ≡ magic
-unfolding big_bytes
-magic-is = refl
+front-is : (out : List ℕ) → magic ++ drop 4 out ≡ splice 0 magic out
+unfolding splice
+front-is out = refl
 
 pub returns : goal.returns
 returns c =
     let out = c.args.out.now in
-    let first = c.put_u32 in
-    laid-two 0 4 magic (version ∷ []) out first.new.out _ (omega arith) refl
-    (first.ensures ∙ ap (λ (bs : List ℕ). splice 0 bs out) magic-is)
-    (splice-set 4 1 first.new.out (omega (arith, c.requires, first.auto.out)))
+    let laid = ap (λ (l : List ℕ). l ++ drop 4 out) c.copy_from_slice.ensures.after ∙ front-is out in
+    laid-two 0 4 magic (version ∷ []) out _ _ (omega arith) refl laid
+    (splice-set 4 1 (c.copy_from_slice.new.self ++ drop 4 out) (simp (length-append, length-drop) (omega (arith, c.requires, ap length c.copy_from_slice.ensures.after))))

@@ -3,12 +3,6 @@ use borrow.Author.Tests.{ne_eqb}
 use Rattle.format.specs.Timestamps.{read_differences}
 use Rattle.timestamps.proofs.read_differences.Goals as goal
 
-pub returns-then-form-eq-RAW : goal.returns-then-form-eq-RAW
-returns-then-form-eq-RAW c = rw c.if-form-eq-RAW.true c.read_raw.ensures
-
-pub returns-then-form-eq-PACKED : goal.returns-then-form-eq-PACKED
-returns-then-form-eq-PACKED c = rw c.if-form-eq-PACKED.true c.read_packed.ensures
-
 pub returns : goal.returns
 unfolding read_differences
 returns c t =

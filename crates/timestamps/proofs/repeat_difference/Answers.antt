@@ -1,74 +1,50 @@
 -- `timestamps::repeat_difference` meets its contract: the differences left take no more than the time has left, so that each step is within it.
 use mathlib.Core.Path.{◌≡◌}
 use Prim.Native.Nat.{◌*◌, ◌≤◌}
-use native.Mathlib.Nat.{sub-zero, one-le-mul}
+use native.Mathlib.Nat.{one-le-mul}
 use native.Mathlib.Omega.{arith}
-use lib.ListN.{replicate, length-set, length-replicate, get_or, get_or-replicate}
+use lib.ListN.{replicate, length-replicate, get_or, get_or-replicate}
 use Rattle.format.specs.declared.Refusal.TheVariants.{Timestamps}
 use Rattle.timestamps.proofs.Clock.{time-stored}
 use Rattle.timestamps.proofs.Refusing.{answer-refused}
-use Rattle.timestamps.proofs.Adding.{add_start, add-more, add-end, scale-most, scale-past}
-use Rattle.timestamps.proofs.Regular.{regular-late, regular-fits, regular-wide, regular-over, regular-step}
+use Rattle.timestamps.proofs.Adding.{add-more, add-end}
+use Rattle.timestamps.proofs.Regular.{regular-late, regular-wide, regular-over, regular-step}
 use Rattle.timestamps.proofs.repeat_difference.Goals as goal
 
-pub returns-then-scale-difference : goal.returns-then-scale-difference
-returns-then-scale-difference c =
+pub returns-in_default : goal.returns-in_default
+returns-in_default c =
     let a = c.args in
-    let far = scale-past a.scale a.difference c.requires.3 c.if-scale-difference.true in
     let r = answer-refused _ Timestamps 0 _ _
     (regular-late (a.difference * a.scale) a.first a.count c.ranges.first.fits
-    (regular-over (a.difference * a.scale) _ a.count c.requires.1 (omega (arith, far)))) in
+    (regular-over (a.difference * a.scale) _ a.count c.requires.1 (omega (arith, c.in_default.ensures, c.ranges.first.fits)))) in
     record { answer = r.0; cells = r.1 }
-
-pub overflow_mul-step : goal.overflow_mul-step
-overflow_mul-step c = record { fits = scale-most c.args.scale c.args.difference c.requires.3 c.if-scale-difference.false }
 
 pub returns-then-room-count : goal.returns-then-room-count
 returns-then-room-count c =
     let a = c.args in
     let r = answer-refused _ Timestamps 0 _ _
-    (regular-late (a.difference * a.scale) a.first a.count c.ranges.first.fits
-    (regular-wide (a.difference * a.scale) _ a.count c.requires.1 (rw c.wrap_sub-room.ensures at c.if-room-count.true))) in
-    record { answer = r.0; cells = r.1 }
-
-pub loop-i-init : goal.loop-i-init
-loop-i-init c =
-    let a = c.args in (
-      add_start a.first _ _ c.wrap_sub-room.result c.ranges.first.fits c.wrap_sub-room.ensures (omega (arith, c.wrap_sub-room.type_inv)),
-      rw sub-zero (regular-fits (a.difference * a.scale) c.wrap_sub-room.result a.count c.requires.1 c.if-room-count.false),
-    )
-
-pub bounds-times-i : goal.bounds-times-i
-bounds-times-i c = omega (arith, c.loop-i.invariant.0.size, c.loop-i-test.true, c.requires.4)
-
-pub overflow_sub-left : goal.overflow_sub-left
-overflow_sub-left c =
-    (regular-step (c.args.difference * c.args.scale) c.args.count c.loop-i.i c.loop-i.left c.loop-i-test.true c.loop-i.invariant.1).0
+    (regular-late c.in-Some.step a.first a.count c.ranges.first.fits
+    (regular-wide c.in-Some.step _ a.count c.requires.1 (rw c.wrap_sub-room.ensures at c.if-room-count.true))) in
+    rw (← c.in-Some.ensures.1) (record { answer = r.0; cells = r.1 })
 
 pub loop-i-preserved : goal.loop-i-preserved
 loop-i-preserved c =
     let a = c.args in
-    let step = a.difference * a.scale in
+    let step = c.in-Some.step in
     let h = c.loop-i-test.true in
     let n = length-replicate a.count step in
     let x : get_or (replicate a.count step) c.loop-i.i 0 ≡ step = get_or-replicate a.count c.loop-i.i step 0 h in
-    let least : 1 ≤ step = one-le-mul c.requires.0 c.requires.3 in
+    let least : 1 ≤ step = rw c.in-Some.ensures.1 (one-le-mul c.requires.0 c.requires.3) in
     let within = regular-step step a.count c.loop-i.i c.loop-i.left h c.loop-i.invariant.1 in
     let more = add-more c.loop-i.invariant.0 (omega (arith, n, h)) (omega (arith, x, least)) (omega (arith, x, within.0)) (omega (arith, h, c.requires.4)) in
     (rw (time-stored c.time_at.result c.loop-i.left c.time_at.ensures c.loop-i.invariant.0.small) (rw x at more), within.1)
-
-pub bounds-times-count : goal.bounds-times-count
-bounds-times-count c = omega (arith, c.loop-i.invariant.0.size, c.requires.4)
-
-pub shape_of-times : goal.shape_of-times
-shape_of-times c = simp length-set c.loop-i.invariant.0.size
 
 pub returns : goal.returns
 returns c =
     let a = c.args in
     let l = c.loop-i in
-    let n = length-replicate a.count (a.difference * a.scale) in
+    let n = length-replicate a.count c.in-Some.step in
     let end : a.count ≡ l.i = omega (arith, l.invariant.0.within, c.loop-i-test.false, n) in
     let at = time-stored c.time_at-2.result l.left c.time_at-2.ensures l.invariant.0.small in
     let r = add-end l.invariant.0 a.count end (omega (arith, n, end)) (omega (arith, n, c.requires.2)) (omega (arith, end, c.requires.4)) in
-    rw at (record { answer = r.0; cells = r.1 })
+    rw (at, ← c.in-Some.ensures.1) (record { answer = r.0; cells = r.1 })

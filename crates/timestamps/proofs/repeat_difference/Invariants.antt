@@ -8,6 +8,3 @@ use Rattle.timestamps.proofs.repeat_difference.Given as goal
 abbrev pub invariant-loop-i : goal.invariant-loop-i
 invariant-loop-i l =
     Adding (signed l.first) (replicate l.count l.step) l.initial.times l.times l.left l.i × ((l.count - l.i) * l.step ≤ l.left)
-
-abbrev pub decreases-loop-i : goal.decreases-loop-i
-decreases-loop-i l = l.count - l.i

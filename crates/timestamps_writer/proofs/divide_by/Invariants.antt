@@ -1,10 +1,6 @@
--- `timestamps_writer::divide_by` meets its contract: the numbers passed are divided, and the rest is unchanged.
-use Prim.Native.Nat.{◌-◌, ◌/◌}
-use Rattle.timestamps_writer.proofs.Walks.{Dividing}
+-- `timestamps_writer::divide_by` meets its contract: the numbers passed are divided, and those left are to be.
+use Rattle.std.proofs.Common.{◌≡◌, ◌/◌, ◌++◌, map, take, drop}
 use Rattle.timestamps_writer.proofs.divide_by.Given as goal
 
-abbrev pub invariant-loop-i : goal.invariant-loop-i
-invariant-loop-i l = Dividing (λ d. d / l.scale) l.initial.cells l.count l.cells l.i
-
-abbrev pub decreases-loop-i : goal.decreases-loop-i
-decreases-loop-i l = l.count - l.i
+abbrev pub invariant-loop-cell : goal.invariant-loop-cell
+invariant-loop-cell l = take l.cell-index l.cells ++ map (λ d. d / l.scale) (drop l.cell-index l.cells) ≡ map (λ d. d / l.scale) l.initial.cells

@@ -1,10 +1,6 @@
 -- `timestamps_writer::put_differences` meets its contract: the differences passed stand in the cells, and those left complete them.
-use Prim.Native.Nat.{◌-◌}
 use Rattle.timestamps_writer.proofs.Gaps.{Stepping}
 use Rattle.timestamps_writer.proofs.put_differences.Given as goal
 
 abbrev pub invariant-loop-i : goal.invariant-loop-i
-invariant-loop-i l = Stepping l.times l.n l.initial.cells l.cells l.i
-
-abbrev pub decreases-loop-i : goal.decreases-loop-i
-decreases-loop-i l = l.n - l.i
+invariant-loop-i l = Stepping l.times l.cells l.i

@@ -1,16 +1,9 @@
 -- `timestamps_writer::put_head` meets its contract: the first byte and the first time are laid as one.
 use mathlib.Core.Path.{◌∙◌}
 use native.Mathlib.Omega.{arith}
-use lib.ListN.{length-set}
 use Rattle.format.specs.Bytes.{big_bytes}
 use Rattle.format.proofs.Splices.{splice-store}
 use Rattle.timestamps_writer.proofs.put_head.Goals as goal
-
-pub put_u64-requires : goal.put_u64-requires
-put_u64-requires c = simp length-set (omega arith)
-
-pub shape_of-out : goal.shape_of-out
-shape_of-out c = c.put_u64.auto.out ∙ simp length-set
 
 pub returns : goal.returns
 returns c =

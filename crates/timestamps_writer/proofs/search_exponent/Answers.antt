@@ -1,25 +1,19 @@
 -- `timestamps_writer::search_exponent` meets its contract: where a difference is not divided, the exponent falls by one.
+use mathlib.Core.Path.{sym, ◌∙◌}
 use native.Mathlib.Omega.{arith}
-use Rattle.timestamps_writer.proofs.Exponents.{find-start, find_none, find-less, find-end}
+use Rattle.timestamps_writer.proofs.Exponents.{find_none, find-within, find-less, find-end}
 use Rattle.timestamps_writer.proofs.search_exponent.Goals as goal
 
-pub loop-e-init : goal.loop-e-init
-loop-e-init c = find-start _ _
+pub returns-in_default : goal.returns-in_default
+returns-in_default c = find-end c.loop-e.invariant (sym c.undivided.ensures ∙ c.in_default.is)
 
-pub pass_power-i-requires : goal.pass_power-i-requires
-pass_power-i-requires c = (c.loop-e.invariant.within, c.requires, c.loop-e-test.true, c.loop-e.invariant.most)
-
-pub returns-then-i-count : goal.returns-then-i-count
-returns-then-i-count c = find-end c.loop-e.invariant c.requires c.pass_power-i.ensures c.if-i-count.true
-
-pub overflow_sub-e : goal.overflow_sub-e
-overflow_sub-e c = omega (arith, c.loop-e-test.true)
-
-pub loop-e-smaller : goal.loop-e-smaller
-loop-e-smaller c = omega (arith, c.loop-e-test.true)
+pub offset_bounds-rest-place : goal.offset_bounds-rest-place
+offset_bounds-rest-place c =
+    let h = find-within c.loop-e.invariant c.in-Some.place (sym c.undivided.ensures ∙ c.in-Some.is) in
+    omega arith
 
 pub loop-e-preserved : goal.loop-e-preserved
-loop-e-preserved c = find-less c.loop-e.invariant c.requires c.pass_power-i.ensures c.if-i-count.false
+loop-e-preserved c = find-less c.loop-e.invariant c.in-Some.place (sym c.undivided.ensures ∙ c.in-Some.is)
 
 pub returns : goal.returns
 returns c = find_none c.loop-e.invariant (omega (arith, c.loop-e-test.false))

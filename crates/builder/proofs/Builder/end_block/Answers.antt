@@ -29,11 +29,6 @@ returns-then-self-eq0-clause-laid c =
     let b = c.args.self.now in
     sym (end_none b.mode b.kind (in_fill b) b.places c.args.out.now (none (goal.at.returns-then-self-eq0-clause-laid c).Start c.if-self-eq0.true)).1
 
-pub flush-requires : goal.flush-requires
-flush-requires c =
-    let h : 1 ≤ c.args.self.now.places.filled = omega (arith, c.if-self-eq0.false) in
-    (c.requires.block-fits h, c.requires.places-fit, c.requires.flush-fits h)
-
 pub returns-clause-builder : goal.returns-clause-builder
 returns-clause-builder c =
     let b = c.args.self.now in

@@ -4,7 +4,7 @@ use mathlib.Core.Path.{sym, ap, ◌∙◌}
 use native.Mathlib.Omega.{arith}
 use Rattle.builder.specs.Steps.{first_points, fill_places, flush_places, flush_bytes}
 use Rattle.builder.proofs.Entries.{with_places}
-use Rattle.builder.proofs.Fills.{more_room, more-fit, stays-few, stays-full, extend-stays, extend-flushes}
+use Rattle.builder.proofs.Fills.{stays-few, stays-full, extend-stays, extend-flushes}
 use Rattle.builder.proofs.Builder.extend.Goals as goal
 
 pub returns-then-filled-lt-WRITER_BLOCK_MOST-clause-builder : goal.returns-then-filled-lt-WRITER_BLOCK_MOST-clause-builder
@@ -22,18 +22,6 @@ returns-then-filled-lt-WRITER_BLOCK_MOST-clause-laid c =
     let f = first_points c.args.filled b in
     let s = c.requires.count in
     sym (extend-stays b.mode b.kind f b.places c.args.out.now (stays-few f (omega (arith, s, c.if-filled-lt-WRITER_BLOCK_MOST.true)))).1
-
-pub flush-requires : goal.flush-requires
-unfolding fill_places
-flush-requires c =
-    let b = c.args.self.now in
-    let f = first_points c.args.filled b in
-    let full = c.if-filled-lt-WRITER_BLOCK_MOST.false in
-    let fits = c.requires.block-fits (omega (arith, full)) in (
-      record { most = fits.most; block = fits.block },
-      more-fit c.args.filled b.places c.requires.places-fit,
-      more_room b.mode b.kind f c.args.filled b.places c.args.out.now (c.requires.flush-fits (omega (arith, full))),
-    )
 
 pub returns-clause-builder : goal.returns-clause-builder
 unfolding flush_places
