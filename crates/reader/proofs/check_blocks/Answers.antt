@@ -1,6 +1,6 @@
 -- `check_blocks` meets its contract: what was counted and what is left make what the whole makes.
 use Rattle.std.specs.Prelude.{Result, Ok, Err}
-use Rattle.std.proofs.Common.{rules, arith, ◌≡◌, ℕ, ◌+◌, List, Bool, ap, sym, ◌∙◌}
+use Rattle.std.proofs.Common.{rules, arith, ◌≡◌, ℕ, ◌+◌, Bool, ap, sym, ◌∙◌}
 use Rattle.format.specs.declared.Fault.{Fault}
 use Rattle.format.specs.Refusals.{Outcome, answer_of}
 use Rattle.format.specs.Block.{read_block}

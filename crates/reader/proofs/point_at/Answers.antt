@@ -1,5 +1,5 @@
 -- `point_at` meets its contract: the place where the time stands first gives the answer.
-use Rattle.std.proofs.Common.{ℕ, ℤ, arith, sym, ap, ◌∙◌, FitsSigned, pos}
+use Rattle.std.proofs.Common.{arith, sym, ap, ◌∙◌, FitsSigned}
 use mir.Syntax.{w64}
 use mir.ValLaws.{to_z-of_z}
 use Rattle.reader.proofs.Parts.{answer_at, point-at}
