@@ -3,6 +3,7 @@
 --   added           so many keys and points more
 --   check-refused   a refused index
 --   left-start, left_key, left-entry, left-broken, left_end   step by step
+use Rattle.std.specs.Prelude.{Err}
 use Prim.Native.Nat.{ℕ, ◌+◌}
 use mathlib.Core.Path.{◌≡◌, refl}
 use mathlib.Core.List.{List, [], ◌∷◌, ◌++◌}
@@ -11,7 +12,6 @@ use native.Mathlib.Omega.{arith}
 use lib.ListN.{length, length-append}
 use Rattle.format.specs.declared.Entry.{Entry}
 use Rattle.format.specs.declared.Refusal.{Refusal}
-use Rattle.format.specs.declared.Checked.{Checked}
 use Rattle.format.specs.Refusals.{Outcome, ok, refused, ◌>>=◌}
 use Rattle.format.specs.Meaning.{Point, Meaning, key_total, point_total}
 use Rattle.format.specs.Index.{IndexKey}
@@ -32,7 +32,7 @@ totals : {k l p q : ℕ} → k ≡ l → p ≡ q → ◌≡◌ {A = Outcome (ℕ
 totals e f = cc
 
 module _ (image : List ℕ) where
-  pub check-refused : (r : Refusal) (place : ℕ) → read_index image ≡ refused r place → checked_says (Checked.Refused r) ≡ check_answer image
+  pub check-refused : (r : Refusal) (place : ℕ) → read_index image ≡ refused r place → checked_says (Err r) ≡ check_answer image
   unfolding check_result read_file
   check-refused r place e = rw e
 

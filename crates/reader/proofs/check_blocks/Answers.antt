@@ -1,115 +1,91 @@
 -- `check_blocks` meets its contract: what was counted and what is left make what the whole makes.
-use Prim.Native.Nat.{ℕ, ◌+◌}
-use mathlib.Core.Path.{◌≡◌, refl, ap, sym, subst, ◌∙◌}
-use mathlib.Core.Bool.{Bool}
-use mathlib.Core.List.{List}
-use native.Mathlib.Omega.{arith}
+use Rattle.std.specs.Prelude.{Result, Ok, Err}
+use Rattle.std.proofs.Common.{rules, arith, ◌≡◌, ℕ, ◌+◌, Bool, ap, sym, ◌∙◌}
+use Rattle.format.specs.declared.Fault.{Fault}
 use Rattle.format.specs.Refusals.{Outcome, answer_of}
 use Rattle.format.specs.Block.{read_block}
 use Rattle.format.specs.File.{block_of}
-use Rattle.index.specs.declared.Cursor.{Cursor}
 use Rattle.index.specs.declared.Step.{Step}
-use Rattle.index.specs.Cursors.{first_cursor}
 use Rattle.index.proofs.Frames.{in_image, index-good}
-use Rattle.index.proofs.Loops.{After, loop-step}
-use Rattle.block.proofs.Answers.{answer-points}
-use Rattle.reader.proofs.Entries.{refusal_is}
+use Rattle.index.proofs.Loops.{After, AfterEntry, loop-step}
+use Rattle.block.proofs.Answers.{answer-points, answer-refused}
 use Rattle.reader.proofs.Checking.{counts, judged, Checking, start-check, on-key-check, on-entry-check, at-broken, at-end-check}
 use Rattle.reader.proofs.check_blocks.Goals as goal
-use Rattle.reader.proofs.check_blocks.Goals.{After-next, In-Entry, In-Count}
+use Rattle.reader.proofs.check_blocks.Goals.{After-next, In_ok-totals-in-Entry}
 
 -- what the step that `next` answers gives
-stepped : (c : After-next) (s : Step) → c.next.result ≡ s
-    → After c.args.index.now c.args.start.0 (judged c.args.image.now) c.loop-on.c (counts c.args.image.now c.loop-on.keys c.loop-on.points) s
+stepped : (c : After-next) (s : Result Step Fault) → c.next.result ≡ s
+    → After c.args.index.bytes.now c.args.index.start.0 (judged c.args.image.now) c.loop-on.at (counts c.args.image.now c.loop-on.totals.keys c.loop-on.totals.points) s
 stepped c s e =
+    let a = c.args in
     let l = c.loop-on in
-    loop-step c.args.index.now c.args.start.0 (judged c.args.image.now) l.c (counts c.args.image.now l.keys l.points) l.invariant.0.state s (sym c.next.ensures ∙ e)
+    loop-step a.index.bytes.now a.index.start.0 (judged a.image.now) l.at (counts a.image.now l.totals.keys l.totals.points) l.invariant.state s (sym c.next.ensures ∙ e)
+
+-- the state past an entry, with the points of its block
+further : (c : In_ok-totals-in-Entry)
+    → AfterEntry c.args.index.bytes.now c.args.index.start.0 (judged c.args.image.now) c.loop-on.at (counts c.args.image.now c.loop-on.totals.keys c.loop-on.totals.points) c.in-Entry.entry c.in-Entry.on
+    → Checking c.args.image.now c.args.index.bytes.now c.args.index.start.0 c.in-Entry.on c.loop-on.totals.keys (c.loop-on.totals.points + c.in_ok-totals-in-Entry.field-0)
+further c after =
+    let a = c.args in
+    let l = c.loop-on in
+    let e = c.in-Entry.entry in
+    on-entry-check a.image.now a.index.bytes.now a.index.start.0 l.at l.totals.keys l.totals.points l.invariant e c.in-Entry.on after _ _ _ _ _
+    (answer-points _ _ _ _ _ (read_block e (block_of a.image.now e)) (sym c.in_ok-totals-in-Entry.was ∙ c.read_entry.ensures.answer) c.read_entry.ensures.cells)
 
 pub loop-on-init : goal.loop-on-init
 loop-on-init c =
     let a = c.args in
-    let here = start-check a.image.now a.start c.requires.0 in
-    let there = subst (λ (l : List ℕ). Checking a.image.now l a.start.0 first_cursor 0 0) (sym c.requires.1) here in
-    (subst (λ (k : Cursor). Checking a.image.now a.index.now a.start.0 k 0 0) (sym c.first-c.ensures) there, refl, refl)
+    rw (c.first-at.ensures, c.requires.1) (start-check a.image.now a.index.start c.requires.0)
 
-pub next-requires : goal.next-requires
-next-requires c = c.loop-on.invariant.0.state.sound
-
-pub overflow_add-keys : goal.overflow_add-keys
-overflow_add-keys c = let k = c.loop-on.invariant.0 in omega (arith, k.few-keys, k.state.sound.entries, k.state.sound.image)
+pub returns-in_err-on : goal.returns-in_err-on
+returns-in_err-on c =
+    let is : c.from_residual.result ≡ Err c.in_err-on.field-0.0.refusal = search rules in
+    let done = stepped (goal.at.returns-in_err-on c).After-next _ c.in_err-on.was in
+    rw is (ap (λ (t : Bool × Outcome (ℕ × ℕ)). answer_of t.1) done)
 
 pub loop-on-smaller-in-Key : goal.loop-on-smaller-in-Key
-loop-on-smaller-in-Key c = (stepped (goal.at.loop-on-smaller-in-Key c).After-next _ c.in-Key.is).less
+loop-on-smaller-in-Key c = (stepped (goal.at.loop-on-smaller-in-Key c).After-next _ (c.in_ok-on.was ∙ ap Ok c.in-Key.is)).less
 
 pub loop-on-preserved-in-Key : goal.loop-on-preserved-in-Key
 loop-on-preserved-in-Key c =
     let a = c.args in
     let l = c.loop-on in
-    let after = stepped (goal.at.loop-on-preserved-in-Key c).After-next _ c.in-Key.is in
-    (on-key-check a.image.now a.index.now a.start.0 l.c l.keys l.points l.invariant.0 _ after, l.invariant.1, l.invariant.2)
+    on-key-check a.image.now a.index.bytes.now a.index.start.0 l.at l.totals.keys l.totals.points l.invariant _
+    (stepped (goal.at.loop-on-preserved-in-Key c).After-next _ (c.in_ok-on.was ∙ ap Ok c.in-Key.is))
 
-pub read_entry-read-requires : goal.read_entry-read-requires
-read_entry-read-requires c =
+pub read_entry-requires : goal.read_entry-requires
+read_entry-requires c =
     let a = c.args in
-    let l = c.loop-on in
-    let starts = (index-good a.image.now a.start c.requires.0).starts in
-    let block = (stepped (goal.at.read_entry-read-requires c).After-next _ c.in-Entry.is).step.block in (
-      in_image a.image.now _ starts.framed block.least (omega (arith, block.within, starts.start)),
-      omega (arith, l.invariant.1, c.requires.2),
-      omega (arith, l.invariant.2, c.requires.3),
-    )
+    let starts = (index-good a.image.now a.index.start c.requires.0).starts in
+    let block = (stepped (goal.at.read_entry-requires c).After-next _ (c.in_ok-on.was ∙ ap Ok c.in-Entry.is)).step.block in
+    in_image a.image.now _ starts.framed block.least (omega (arith, block.within, starts.start))
 
-pub shape_of-times-in_default : goal.shape_of-times-in_default
-shape_of-times-in_default c = c.read_entry-read.auto.times ∙ c.loop-on.invariant.1
-
-pub shape_of-patterns-in_default : goal.shape_of-patterns-in_default
-shape_of-patterns-in_default c = c.read_entry-read.auto.values ∙ c.loop-on.invariant.2
-
-pub returns-in_default : goal.returns-in_default
-returns-in_default c =
+pub returns-in_err-totals-in-Entry : goal.returns-in_err-totals-in-Entry
+returns-in_err-totals-in-Entry c =
     let a = c.args in
     let l = c.loop-on in
     let e = c.in-Entry.entry in
-    let after = stepped (goal.at.returns-in_default c).After-next (Step.Entry e c.in-Entry.on) c.in-Entry.is in
-    at-broken a.image.now a.index.now a.start.0 l.c l.keys l.points l.invariant.0 e c.in-Entry.on after _ _
-    (refusal_is a.image.now e _ c.read_entry-read.ensures.answer c.in_default.field-0 c.in_default.field-1 c.in_default.is _ c.block_refusal.ensures)
+    let fault = c.in_err-totals-in-Entry.field-0.0 in
+    let is : c.from_residual-in_err-totals-in-Entry.result ≡ Err fault.refusal = search rules in
+    let after = stepped (goal.at.returns-in_err-totals-in-Entry c).After-next _ (c.in_ok-on.was ∙ ap Ok c.in-Entry.is) in
+    rw is
+    (at-broken a.image.now a.index.bytes.now a.index.start.0 l.at l.totals.keys l.totals.points l.invariant e c.in-Entry.on after _ _
+    (answer-refused fault (read_block e (block_of a.image.now e)) (sym c.in_err-totals-in-Entry.was ∙ c.read_entry.ensures.answer)))
 
--- the state with the points of the block
-further : (c : In-Count) → c.next.result ≡ Step.Entry c.in-Entry.entry c.in-Entry.on
-    → Checking c.args.image.now c.args.index.now c.args.start.0 c.in-Entry.on c.loop-on.keys (c.loop-on.points + c.in-Count.n)
-further c is =
-    let a = c.args in
-    let l = c.loop-on in
-    let e = c.in-Entry.entry in
-    let after = loop-step a.index.now a.start.0 (judged a.image.now) l.c (counts a.image.now l.keys l.points) l.invariant.0.state _ (sym c.next.ensures ∙ is) in
-    on-entry-check a.image.now a.index.now a.start.0 l.c l.keys l.points l.invariant.0 e c.in-Entry.on after _ _ _ _ _
-    (answer-points _ _ _ _ _ (read_block e (block_of a.image.now e)) (sym c.in-Count.is ∙ c.read_entry-read.ensures.answer) c.read_entry-read.ensures.cells)
-
-pub overflow_add-points : goal.overflow_add-points
-overflow_add-points c = let k = further (goal.at.overflow_add-points c).In-Count c.in-Entry.is in omega (arith, k.few-points, k.state.sound.entries, k.state.sound.image)
+pub overflow_add-totals-in-Entry : goal.overflow_add-totals-in-Entry
+overflow_add-totals-in-Entry c =
+    let at = goal.at.overflow_add-totals-in-Entry c in
+    let k = further at.In_ok-totals-in-Entry (stepped at.After-next _ (c.in_ok-on.was ∙ ap Ok c.in-Entry.is)) in
+    omega (arith, k.few-points, k.state.sound.entries, k.state.sound.image)
 
 pub loop-on-smaller : goal.loop-on-smaller
-loop-on-smaller c = (stepped (goal.at.loop-on-smaller c).After-next _ c.in-Entry.is).less
+loop-on-smaller c = (stepped (goal.at.loop-on-smaller c).After-next _ (c.in_ok-on.was ∙ ap Ok c.in-Entry.is)).less
 
 pub loop-on-preserved : goal.loop-on-preserved
 loop-on-preserved c =
-    let kept = c.read_entry-read.auto in
-    (further (goal.at.loop-on-preserved c).In-Count c.in-Entry.is, kept.times ∙ c.loop-on.invariant.1, kept.values ∙ c.loop-on.invariant.2)
-
-pub shape_of-times-in-End : goal.shape_of-times-in-End
-shape_of-times-in-End c = c.loop-on.invariant.1
-
-pub shape_of-patterns-in-End : goal.shape_of-patterns-in-End
-shape_of-patterns-in-End c = c.loop-on.invariant.2
+    let at = goal.at.loop-on-preserved c in
+    further at.In_ok-totals-in-Entry (stepped at.After-next _ (c.in_ok-on.was ∙ ap Ok c.in-Entry.is))
 
 pub returns-in-End : goal.returns-in-End
-returns-in-End c = at-end-check c.args.image.now c.loop-on.keys c.loop-on.points (stepped (goal.at.returns-in-End c).After-next _ c.in-End.is)
-
-pub shape_of-times-in-Refused : goal.shape_of-times-in-Refused
-shape_of-times-in-Refused c = c.loop-on.invariant.1
-
-pub shape_of-patterns-in-Refused : goal.shape_of-patterns-in-Refused
-shape_of-patterns-in-Refused c = c.loop-on.invariant.2
-
-pub returns-in-Refused : goal.returns-in-Refused
-returns-in-Refused c = ap (λ (t : Bool × Outcome (ℕ × ℕ)). answer_of t.1) (stepped (goal.at.returns-in-Refused c).After-next _ c.in-Refused.is)
+returns-in-End c =
+    at-end-check c.args.image.now c.loop-on.totals.keys c.loop-on.totals.points (stepped (goal.at.returns-in-End c).After-next _ (c.in_ok-on.was ∙ ap Ok c.in-End.is))

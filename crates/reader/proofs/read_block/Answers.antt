@@ -1,88 +1,51 @@
--- `read_block` meets its contract: the block of the entry that is found is read into local arrays, and its points are laid where both slices have room.
-use mathlib.Core.Path.{◌≡◌, ap, sym, ◌∙◌}
-use native.Mathlib.Omega.{arith}
-use lib.IntN.{ℤ}
+-- `read_block` meets its contract: the block of the entry that is found is read into columns, and its points are laid where both slices have room.
+use Rattle.std.specs.Prelude.{Err}
+use Rattle.std.proofs.Common.{rules, ◌≡◌}
+use mathlib.Core.Logic.{inl, inr, ⊎_elim}
 use mir.Syntax.{w64}
 use mir.ValLaws.{to_z-of_z}
-use Rattle.format.specs.Refusals.{ok}
-use Rattle.format.specs.Find.{find_entry}
-use Rattle.format.specs.Acts.{find_answer, found_says}
-use Rattle.reader.proofs.Entries.{found_at, found-refused, entry-in-image, block_refused, Located, located}
-use Rattle.reader.proofs.Results.{read-refused, read-short-times, read-short-values, read-laid}
-use borrow.Author.Rules.{rules}
+use Rattle.reader.proofs.Entries.{found-refused, entry-in-image, block_refused, Located, located}
+use Rattle.reader.proofs.Results.{read-refused, read-short, read-laid}
 use Rattle.reader.proofs.read_block.Goals as goal
-use Rattle.reader.proofs.read_block.Goals.{After-find-found, In-At, In-Count}
+use Rattle.reader.proofs.read_block.Goals.{In_ok-count}
 
--- what find answers, of the time itself
-said : (c : After-find-found) → found_says c.find-found.result ≡ find_answer c.args.image.now c.args.key.now c.args.time
-said c =
-    c.find-found.ensures ∙ ap (λ (z : ℤ). find_answer c.args.image.now c.args.key.now z) (to_z-of_z w64 c.args.time c.ranges.time)
+-- the points of the block are read
+block : (c : In_ok-count)
+    → Located c.args.image.now c.args.key.now c.args.time c.in_ok-entry.entry c.in_ok-count.count c.read_entry.new.columns.times c.read_entry.new.columns.values
+block c =
+    located c.args.image.now c.args.key.now c.args.time c.in_ok-entry.entry (rw (to_z-of_z w64 c.args.time c.ranges.time) at c.in_ok-entry.ensures) _ _ _ _ c.in_ok-count.count c.in_ok-count.ensures.answer c.in_ok-count.ensures.cells
 
--- an entry is found
-found : (c : In-At) → found_says c.find-found.result ≡ find_answer c.args.image.now c.args.key.now c.args.time
-    → find_entry c.args.image.now c.args.key.now c.args.time ≡ ok c.in-At.entry
-found c told = found_at c.args.image.now c.args.key.now c.args.time _ told c.in-At.entry c.in-At.is
-
--- its points are read
-block : (c : In-Count) → find_entry c.args.image.now c.args.key.now c.args.time ≡ ok c.in-At.entry
-    → Located c.args.image.now c.args.key.now c.args.time c.in-At.entry c.in-Count.n c.read_entry-points.new.times c.read_entry-points.new.values
-block c at =
-    located c.args.image.now c.args.key.now c.args.time c.in-At.entry at _ _ _ _ c.in-Count.n
-    (sym c.in-Count.is ∙ c.read_entry-points.ensures.answer) c.read_entry-points.ensures.cells
-
-pub returns-in_default : goal.returns-in_default
-returns-in_default c =
+pub returns-in_err-entry : goal.returns-in_err-entry
+returns-in_err-entry c =
     let a = c.args in
-    let none = found-refused a.image.now a.key.now a.time _ (said (goal.at.returns-in_default c).After-find-found) c.in_default.field-0 c.in_default.is _ c.found_refusal.ensures in
+    let is : c.from_residual.result ≡ Err c.in_err-entry.field-0.0 = search rules in
+    let none = found-refused a.image.now a.key.now a.time c.in_err-entry.field-0.0 (rw (to_z-of_z w64 a.time c.ranges.time) at c.in_err-entry.ensures) in
     let h = read-refused a.image.now a.key.now a.time a.times.now a.values.now _ none.0 none.1 in
-    record { answer = h.0; times = h.1.0; values = h.1.1 }
+    record { answer = rw is h.0; times = h.1.0; values = h.1.1 }
 
-pub read_entry-points-requires : goal.read_entry-points-requires
-read_entry-points-requires c =
-    let at = goal.at.read_entry-points-requires c in
-    (entry-in-image c.args.image.now c.args.key.now c.args.time c.in-At.entry (found at.In-At (said at.After-find-found)), search rules, search rules)
+pub read_entry-requires : goal.read_entry-requires
+read_entry-requires c = entry-in-image c.args.image.now c.args.key.now c.args.time c.in_ok-entry.entry (rw (to_z-of_z w64 c.args.time c.ranges.time) at c.in_ok-entry.ensures)
 
-pub returns-in_default-points : goal.returns-in_default-points
-returns-in_default-points c =
+pub returns-in_err-count : goal.returns-in_err-count
+returns-in_err-count c =
     let a = c.args in
-    let at = goal.at.returns-in_default-points c in
-    let told = c.in_default-points in
-    let h = read-refused a.image.now a.key.now a.time a.times.now a.values.now _ _
-    (block_refused a.image.now a.key.now a.time c.in-At.entry (found at.In-At (said at.After-find-found)) _ c.read_entry-points.ensures.answer told.field-0 told.field-1 told.is _ c.block_refusal.ensures) in
-    record { answer = h.0; times = h.1.0; values = h.1.1 }
+    let fault = c.in_err-count.field-0.0 in
+    let is : c.from_residual-in_err-count.result ≡ Err fault.refusal = search rules in
+    let none = block_refused a.image.now a.key.now a.time c.in_ok-entry.entry (rw (to_z-of_z w64 c.args.time c.ranges.time) at c.in_ok-entry.ensures) fault c.in_err-count.ensures.answer in
+    let h = read-refused a.image.now a.key.now a.time a.times.now a.values.now _ _ none in
+    record { answer = rw is h.0; times = h.1.0; values = h.1.1 }
 
-pub returns-then-times-n : goal.returns-then-times-n
-returns-then-times-n c =
+pub returns-then-times-count : goal.returns-then-times-count
+returns-then-times-count c =
     let a = c.args in
-    let at = goal.at.returns-then-times-n c in
-    let b = block at.In-Count (found at.In-At (said at.After-find-found)) in
-    let h = read-short-times a.image.now a.key.now a.time a.times.now a.values.now c.in-At.entry _ _ _ b c.if-times-n.true in
+    let at = goal.at.returns-then-times-count c in
+    let short = ⊎_elim (λ h. inl h) (λ h. inr h.1) c.then-times-count.either in
+    let h = read-short a.image.now a.key.now a.time a.times.now a.values.now c.in_ok-entry.entry c.in_ok-count.count _ _ (block at.In_ok-count) short in
     record { answer = h.0; times = h.1.0; values = h.1.1 }
-
-pub returns-then-values-n : goal.returns-then-values-n
-returns-then-values-n c =
-    let a = c.args in
-    let at = goal.at.returns-then-values-n c in
-    let b = block at.In-Count (found at.In-At (said at.After-find-found)) in
-    let h = read-short-values a.image.now a.key.now a.time a.times.now a.values.now c.in-At.entry _ _ _ b c.if-values-n.true in
-    record { answer = h.0; times = h.1.0; values = h.1.1 }
-
-pub copy_times-requires : goal.copy_times-requires
-copy_times-requires c =
-    let at = goal.at.copy_times-requires c in
-    let b = block at.In-Count (found at.In-At (said at.After-find-found)) in
-    (omega (arith, b.few, c.read_entry-points.auto.times), omega (arith, c.if-times-n.false))
-
-pub copy_values-requires : goal.copy_values-requires
-copy_values-requires c =
-    let at = goal.at.copy_values-requires c in
-    let b = block at.In-Count (found at.In-At (said at.After-find-found)) in
-    (omega (arith, b.few, c.read_entry-points.auto.values), omega (arith, c.if-values-n.false))
 
 pub returns : goal.returns
 returns c =
     let a = c.args in
-    let at = goal.at.returns c in
-    let b = block at.In-Count (found at.In-At (said at.After-find-found)) in
-    let done = read-laid a.image.now a.key.now a.time a.times.now a.values.now c.in-At.entry _ _ _ b c.if-times-n.false c.if-values-n.false in
-    record { answer = done.0; times = c.copy_times.ensures ∙ done.1.0; values = c.copy_values.ensures ∙ done.1.1 }
+    let b = block (goal.at.returns c).In_ok-count in
+    let h = read-laid a.image.now a.key.now a.time a.times.now a.values.now c.in_ok-entry.entry c.in_ok-count.count _ _ b c.if-times-count.false c.if-values-count.false in
+    record { answer = h.0; times = rw c.copy_from_slice.ensures.after h.1.0; values = rw c.put_signed.ensures h.1.1 }
