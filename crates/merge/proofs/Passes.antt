@@ -2,7 +2,7 @@
 --   Going, going-starts   between two series, and where a pass starts
 --   going-past, going-end, going-ready, going-given_up, going-less, going-on   step by step
 use Prim.Native.Nat.{ℕ, ◌≤◌, ◌<◌}
-use mathlib.Core.Path.{◌≡◌, refl, ap, ap₂, sym, subst, ◌∙◌}
+use mathlib.Core.Path.{◌≡◌, ap, ap₂, sym, subst, ◌∙◌}
 use mathlib.Core.Bool.{true}
 use mathlib.Core.List.{List, [], ◌∷◌}
 use native.Mathlib.Omega.{arith}
@@ -15,7 +15,7 @@ use Rattle.format.specs.WellFormed.{good_series}
 use Rattle.format.proofs.Tests.{both_left, both_right}
 use Rattle.builder.specs.declared.Builder.{Builder}
 use Rattle.builder.specs.declared.Mode.{Mode}
-use Rattle.builder.specs.Modes.{lays, start_of}
+use Rattle.builder.specs.Modes.{start_of}
 use Rattle.builder.specs.Steps.{no_key, first_ends, Closed, series_end}
 use Rattle.builder.specs.Passes.{SeriesRoom, Past}
 use Rattle.builder.proofs.SeriesPasses.{past_first, series-none}

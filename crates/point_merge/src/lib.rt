@@ -44,6 +44,20 @@ impl From<TooLong> for Refusal {
 }
 
 impl Side {
+    // An image before its first key, with no block decoded.
+    fn new(image: &[u8]) -> Side
+        requires { accepted image.now ≡ true }
+        ensures { Started image.now result.feed }
+    {
+        Side {
+            feed: key_merge::first(image),
+            columns: Columns {
+                times: [0; READ_BLOCK_MOST],
+                values: [0; READ_BLOCK_MOST],
+            },
+        }
+    }
+
     // Goes on to the next point of the open key, which is in its decoded block; or to the key's end.
     fn settle(&mut self, image: &[u8])
         requires { Stands image.now self.old.feed }
@@ -78,20 +92,8 @@ impl Sides {
         ensures { Started images.entry.older.now result.older.feed × Started images.entry.newer.now result.newer.feed }
     {
         Sides {
-            older: Side {
-                feed: key_merge::first(images.older),
-                columns: Columns {
-                    times: [0; READ_BLOCK_MOST],
-                    values: [0; READ_BLOCK_MOST],
-                },
-            },
-            newer: Side {
-                feed: key_merge::first(images.newer),
-                columns: Columns {
-                    times: [0; READ_BLOCK_MOST],
-                    values: [0; READ_BLOCK_MOST],
-                },
-            },
+            older: Side::new(images.older),
+            newer: Side::new(images.newer),
         }
     }
 
