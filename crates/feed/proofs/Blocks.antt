@@ -1,19 +1,21 @@
 -- The next block of the open key: the step of the cursor takes its entry, and the block is decoded.
 --   no_block       with no entry left, no point is left
 --   block-step     with one left, the step takes it
+--   block-only     and no step is another
 --   block-known    the block can be decoded
 --   entry-left, entry_read   the entries after it, and its points and those of the blocks after it
 --   entry-passed   the feed past the entry, with points of its block decoded or not
 --   block-opened   the feed at the decoded block
-use Rattle.std.specs.Prelude.{Ok}
+use Rattle.std.specs.Prelude.{Result, Ok, Err}
 use Prim.Native.Nat.{ℕ, ◌≤◌, zero-le}
 use mathlib.Core.Path.{◌≡◌, refl, ap, sym, subst, ◌∙◌}
-use mathlib.Core.Bool.{true}
+use mathlib.Core.Bool.{Bool, true, false}
 use mathlib.Core.List.{List, [], ◌∷◌}
 use native.Mathlib.Omega.{arith}
 use lib.IntN.{ℤ}
 use lib.ListN.{length}
 use Rattle.format.specs.declared.Entry.{Entry}
+use Rattle.format.specs.declared.Fault.{Fault}
 use Rattle.format.specs.Limits.{read_block_most}
 use Rattle.format.specs.Refusals.{ok, is_ok}
 use Rattle.format.specs.Block.{read_block}
@@ -33,6 +35,13 @@ use Rattle.index.proofs.Frames.{in_image}
 use Rattle.feed.specs.Feeds.{key_of, entries_left, keys_left, blocks_left, series_left, Stands, Kept, BlockOpened}
 use Rattle.feed.proofs.Readings.{BlocksRead, blocks-read, no_blocks}
 use Rattle.feed.proofs.Standing.{Left, placed, starts}
+
+-- whether a step takes an entry
+abbrev takes : Result Step Fault → Bool
+takes (Ok (Step.Key d)) = false
+takes (Ok (Step.Entry v d)) = true
+takes (Ok Step.End) = false
+takes (Err fault) = false
 
 module _ (image : List ℕ) (f : Feed) (s : Stands image f) where
   abbrev index : List ℕ
@@ -54,6 +63,13 @@ module _ (image : List ℕ) (f : Feed) (s : Stands image f) where
 
   pub block-step : (f.cursor.left ≡ 0 → ⊥) → step_at index x f.cursor ≡ Ok (Step.Entry (entry_at index f.cursor) (past f.cursor (entry_at index f.cursor)))
   block-step more = good-take index x f.cursor s.sound es ks s.index more
+
+  -- with one left, there is no other step
+  pub block-only : {X : Type 0} → (f.cursor.left ≡ 0 → ⊥) → (t : Result Step Fault) → step_at index x f.cursor ≡ t → takes t ≡ false → X
+  block-only more t e none =
+      let some : takes t ≡ true = ap takes (sym e ∙ block-step more) in
+      let z : true ≡ false = sym some ∙ none in
+      cc
 
   module _ (v : Entry) (d : Cursor) (step : step_at index x f.cursor ≡ Ok (Step.Entry v d)) where
     -- the block can be decoded

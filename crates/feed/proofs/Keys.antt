@@ -11,7 +11,6 @@ use native.Mathlib.Omega.{arith}
 use lib.ListN.{length, take, drop, length-take, length-drop}
 use lib.Seq.{drop-drop, take-take}
 use Rattle.format.specs.declared.Entry.{Entry}
-use Rattle.format.specs.declared.Refusal.{Refusal}
 use Rattle.format.specs.declared.ImagePlace.{ImagePlace}
 use Rattle.format.specs.Refusals.{Outcome, ok, ◌>>=◌, is_ok}
 use Rattle.format.specs.Index.{IndexKey}

@@ -75,7 +75,9 @@ impl Feed {
     {
         match Index::part_of(image, self.start).next(self.cursor) {
             Ok(Step::Key(cursor)) => Some(self.at(cursor)),
-            _ => None,
+            Ok(Step::Entry(_, _)) => None,
+            Ok(Step::End) => None,
+            Err(_) => None,
         }
     }
 
@@ -97,12 +99,18 @@ impl Feed {
         if self.cursor.left == 0 {
             return None;
         }
-        let Ok(Step::Entry(entry, on)) = Index::part_of(image, self.start).next(self.cursor) else {
-            return None;
-        };
-        let mut feed = self.at(on);
-        feed.count = open_block(image, entry, columns);
-        Some(feed)
+        match Index::part_of(image, self.start).next(self.cursor) {
+            Ok(Step::Entry(entry, on)) => {
+                let count = open_block(image, entry, columns);
+                Some(Feed {
+                    count,
+                    ..self.at(on)
+                })
+            }
+            Ok(Step::Key(_)) => None,
+            Ok(Step::End) => None,
+            Err(_) => None,
+        }
     }
 
     // The feed after all points of the decoded block.
@@ -121,11 +129,15 @@ impl Feed {
         let mut cursor = self.cursor;
         let mut count: usize = 0;
         for _ in 0..self.cursor.left {
-            let Ok(Step::Entry(entry, on)) = index.next(cursor) else {
-                return count;
-            };
-            count += count_block(image, entry);
-            cursor = on;
+            match index.next(cursor) {
+                Ok(Step::Entry(entry, on)) => {
+                    count += count_block(image, entry);
+                    cursor = on;
+                }
+                Ok(Step::Key(_)) => return count,
+                Ok(Step::End) => return count,
+                Err(_) => return count,
+            }
         }
         count
     }

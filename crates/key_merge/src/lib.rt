@@ -1,111 +1,154 @@
 // The keys of two images, taken in turn: which is next, and whether one has two kinds. Floor 7: it stands on feed and keys.
 #![tactic(auto)]
 
-ghost use Rattle.std.specs.Prelude.{◌≡◌, true, false, ◌≤◌};
+ghost use Rattle.std.specs.Prelude.{◌≡◌, true, ◌≤◌, Some};
 ghost use Rattle.format.specs.File.{accepted};
 ghost use Rattle.format.specs.Merge.{kinds_clash};
 ghost use Rattle.feed.specs.Feeds.{Stands, Done};
-ghost use Rattle.key_merge.specs.Turns.{ordered_turn, TurnAs, EntrySkipped, KeyDone, differs, meaning_of};
+ghost use Rattle.key_merge.specs.Turns.{Started, Standing, ordered_turn, TurnAs, chosen_key, chosen_kind, EntrySkippedAs, KeyDone, differs, meaning_of};
 
-use feed::{Feed, NextKey};
-use index::Step;
+use feed::Feed;
+use format::Kind;
+use index::{Index, Step};
+use std::cmp::Ordering;
 
-// The next key of a merge, and which images have it. The feed of an image that has it is at the key; any other stays.
+// The two images of a merge.
 #[derive(Clone, Copy)]
-pub enum Turn {
-    Key {
-        older: Feed,
-        newer: Feed,
-        from_older: bool,
-        from_newer: bool,
-    },
-    End,
+pub struct Images<'a> {
+    pub older: &'a [u8],
+    pub newer: &'a [u8],
 }
 
-// Which of two open keys is next, or both; the feed of a key that is not next stays before it.
-fn order_keys(
-    older: &[u8],
-    old: Feed,
-    older_key: Feed,
-    newer: &[u8],
-    new: Feed,
-    newer_key: Feed,
-) -> Turn
-    requires { Stands older.now older_key × Stands newer.now newer_key }
-    ensures { result ≡ ordered_turn older.now old older_key newer.now new newer_key }
+// Where both are read.
+#[derive(Clone, Copy)]
+pub struct Feeds {
+    pub older: Feed,
+    pub newer: Feed,
+}
+
+// Which images have a key.
+#[derive(Clone, Copy, Debug, PartialEq, Eq)]
+pub enum Owner {
+    Older,
+    Newer,
+    Both,
+}
+
+// The next key of a merge, and which images have it. The feed of an image that has it is at the key; the other stays.
+#[derive(Clone, Copy)]
+pub struct Turn {
+    pub feeds: Feeds,
+    pub owner: Owner,
+}
+
+impl Turn {
+    // The bytes of the key: the newer's, where that image has it.
+    pub fn key<'a>(self, images: Images<'a>) -> &'a [u8]
+        requires { Stands images.older.now self.feeds.older × Stands images.newer.now self.feeds.newer }
+        ensures { result.now ≡ chosen_key images.entry self }
+    {
+        match self.owner {
+            Owner::Older => self.feeds.older.key(images.older),
+            Owner::Newer | Owner::Both => self.feeds.newer.key(images.newer),
+        }
+    }
+
+    // Its kind: the newer's, where that image has it.
+    pub fn kind(self) -> Kind
+        ensures { result ≡ chosen_kind self }
+    {
+        match self.owner {
+            Owner::Older => self.feeds.older.cursor.kind,
+            Owner::Newer | Owner::Both => self.feeds.newer.cursor.kind,
+        }
+    }
+
+    // Whether both images have the key, with two kinds.
+    fn kinds_differ(self) -> bool
+        ensures { result ≡ differs self }
+    {
+        self.owner == Owner::Both && self.feeds.older.cursor.kind != self.feeds.newer.cursor.kind
+    }
+}
+
+// The feed before the first key of an image, all of whose series are good.
+pub fn first(image: &[u8]) -> Feed
+    requires { accepted image.now ≡ true }
+    ensures { Started image.now result }
 {
-    let first = feed::key(older, older_key);
-    let second = feed::key(newer, newer_key);
-    if keys::key_before(first, second) {
-        return Turn::Key {
-            older: older_key,
-            newer: new,
-            from_older: true,
-            from_newer: false,
-        };
-    }
-    if keys::key_before(second, first) {
-        return Turn::Key {
-            older: old,
-            newer: newer_key,
-            from_older: false,
-            from_newer: true,
-        };
-    }
-    Turn::Key {
-        older: older_key,
-        newer: newer_key,
-        from_older: true,
-        from_newer: true,
-    }
+    feed::first(image)
 }
 
-// The next key of both images.
-pub fn next_turn(older: &[u8], old: Feed, newer: &[u8], new: Feed) -> Turn
-    requires { Stands older.now old × Done old × Stands newer.now new × Done new }
-    ensures { TurnAs older.now old newer.now new result }
+// Which of two opened keys is next, or both; the feed of a key that is not next stays before it.
+fn order_keys(images: Images<'_>, at: Feeds, opened: Feeds) -> Turn
+    requires { Stands images.older.now opened.older × Stands images.newer.now opened.newer }
+    ensures { result ≡ ordered_turn images.entry at opened }
 {
-    let first = feed::next_key(older, old);
-    let second = feed::next_key(newer, new);
-    match first {
-        NextKey::Key(older_key) => match second {
-            NextKey::Key(newer_key) => order_keys(older, old, older_key, newer, new, newer_key),
-            NextKey::End => Turn::Key {
-                older: older_key,
-                newer: new,
-                from_older: true,
-                from_newer: false,
+    let older = opened.older.key(images.older);
+    let newer = opened.newer.key(images.newer);
+    match older.cmp(newer) {
+        Ordering::Less => Turn {
+            feeds: Feeds {
+                older: opened.older,
+                ..at
             },
+            owner: Owner::Older,
         },
-        NextKey::End => match second {
-            NextKey::Key(newer_key) => Turn::Key {
-                older: old,
-                newer: newer_key,
-                from_older: false,
-                from_newer: true,
+        Ordering::Greater => Turn {
+            feeds: Feeds {
+                newer: opened.newer,
+                ..at
             },
-            NextKey::End => Turn::End,
+            owner: Owner::Newer,
+        },
+        Ordering::Equal => Turn {
+            feeds: opened,
+            owner: Owner::Both,
         },
     }
 }
 
-// The feed past the next entry of the open key, if one is left; its block is not decoded.
-fn skip_entry(image: &[u8], feed: Feed) -> Feed
+// The next key of both images; none where there is no key left.
+pub fn next_turn(images: Images<'_>, at: Feeds) -> Option<Turn>
+    requires { Standing images at }
+    ensures { TurnAs images.entry at result }
+{
+    let older = at.older.next_key(images.older);
+    let newer = at.newer.next_key(images.newer);
+    match (older, newer) {
+        (Some(older), Some(newer)) => Some(order_keys(images, at, Feeds { older, newer })),
+        (Some(older), None) => Some(Turn {
+            feeds: Feeds { older, ..at },
+            owner: Owner::Older,
+        }),
+        (None, Some(newer)) => Some(Turn {
+            feeds: Feeds { newer, ..at },
+            owner: Owner::Newer,
+        }),
+        (None, None) => None,
+    }
+}
+
+// The feed past the next entry of the open key, whose block is not decoded; none where no entry is left.
+fn skip_entry(image: &[u8], feed: Feed) -> Option<Feed>
     requires { Stands image.now feed }
-    ensures { EntrySkipped image.now feed result }
+    ensures { EntrySkippedAs image.now feed result }
 {
-    let start = feed.start;
-    let cursor = feed.cursor;
-    let index = index::index_part(image, start);
-    let Step::Entry(_, on) = index::next(index, start, cursor) else {
-        return feed;
+    if feed.cursor.left == 0 {
+        return None;
+    }
+    let Ok(step) = Index::part_of(image, feed.start).next(feed.cursor) else {
+        return None;
     };
-    Feed {
-        start,
-        cursor: on,
+    let Step::Entry(_, cursor) = step else {
+        return None;
+    };
+    Some(Feed {
+        start: feed.start,
+        cursor,
         next: 0,
         count: 0,
-    }
+    })
 }
 
 // The feed past all entries of the open key, of which no block is decoded.
@@ -114,51 +157,29 @@ fn skip_entries(image: &[u8], from: Feed) -> Feed
     ensures { KeyDone image.now from result }
 {
     let mut on = from;
-    while 0 < on.cursor.left {
-        on = skip_entry(image, on);
+    while let Some(past) = skip_entry(image, on) {
+        on = past;
     }
     on
 }
 
-// Whether both images have the key, with two kinds.
-fn kinds_differ(older: Feed, newer: Feed, first: bool, second: bool) -> bool
-    ensures { result ≡ differs first second older.cursor.kind newer.cursor.kind }
-{
-    if !first {
-        return false;
-    }
-    if !second {
-        return false;
-    }
-    let old = older.cursor;
-    let new = newer.cursor;
-    let old_kind = old.kind;
-    let new_kind = new.kind;
-    old_kind.byte() != new_kind.byte()
-}
-
 // Whether a key has two kinds.
-pub fn kinds_clash(older: &[u8], newer: &[u8]) -> bool
-    requires { (accepted older.now ≡ true) × (accepted newer.now ≡ true) }
-    ensures { result ≡ kinds_clash (meaning_of older.now) (meaning_of newer.now) }
+pub fn kinds_clash(images: Images<'_>) -> bool
+    requires { (accepted images.older.now ≡ true) × (accepted images.newer.now ≡ true) }
+    ensures { result ≡ kinds_clash (meaning_of images.entry.older.now) (meaning_of images.entry.newer.now) }
 {
-    let mut old = feed::first(older);
-    let mut new = feed::first(newer);
-    loop {
-        let turn = next_turn(older, old, newer, new);
-        let Turn::Key {
-            older: older_key,
-            newer: newer_key,
-            from_older,
-            from_newer,
-        } = turn
-        else {
-            return false;
-        };
-        if kinds_differ(older_key, newer_key, from_older, from_newer) {
+    let mut at = Feeds {
+        older: first(images.older),
+        newer: first(images.newer),
+    };
+    while let Some(turn) = next_turn(images, at) {
+        if turn.kinds_differ() {
             return true;
         }
-        old = skip_entries(older, older_key);
-        new = skip_entries(newer, newer_key);
+        at = Feeds {
+            older: skip_entries(images.older, turn.feeds.older),
+            newer: skip_entries(images.newer, turn.feeds.newer),
+        };
     }
+    false
 }

@@ -1,12 +1,11 @@
 -- A pass, series after series: those to come, added from here on, make all of the merge.
---   first_spot, whole_same, passing-starts   where a pass starts
---   passing-past, passing-end, passing-ready, next-added   step by step
-use Prim.Native.Nat.{ℕ, ◌≤◌}
-use mathlib.Core.Path.{◌≡◌, ap, ap₂, sym, subst, ◌∙◌}
-use mathlib.Core.Bool.{Bool, true}
+--   Going, going-starts   between two series, and where a pass starts
+--   going-past, going-end, going-ready, going-given_up, going-less, going-on   step by step
+use Prim.Native.Nat.{ℕ, ◌≤◌, ◌<◌}
+use mathlib.Core.Path.{◌≡◌, refl, ap, ap₂, sym, subst, ◌∙◌}
+use mathlib.Core.Bool.{true}
 use mathlib.Core.List.{List, [], ◌∷◌}
 use native.Mathlib.Omega.{arith}
-use lib.IntN.{ℤ}
 use lib.ListN.{length}
 use Rattle.format.specs.Limits.{image_most}
 use Rattle.format.specs.Choice.{every}
@@ -14,94 +13,91 @@ use Rattle.format.specs.Meaning.{Meaning}
 use Rattle.format.specs.Merge.{merge}
 use Rattle.format.specs.WellFormed.{good_series}
 use Rattle.format.proofs.Tests.{both_left, both_right}
+use Rattle.builder.specs.declared.Builder.{Builder}
 use Rattle.builder.specs.declared.Mode.{Mode}
-use Rattle.builder.specs.Modes.{start_of}
-use Rattle.builder.specs.Steps.{Closed, series_end, first_block, first_head}
+use Rattle.builder.specs.Modes.{lays, start_of}
+use Rattle.builder.specs.Steps.{no_key, first_ends, Closed, series_end}
 use Rattle.builder.specs.Passes.{SeriesRoom, Past}
 use Rattle.builder.proofs.SeriesPasses.{past_first, series-none}
-use Rattle.feed.specs.declared.Feed.{Feed}
 use Rattle.feed.specs.Feeds.{series_left}
-use Rattle.key_merge.specs.Turns.{merged_of, next_series, later}
-use Rattle.merge.specs.Adding.{SeriesReady, open_closed, OneAdded, SeriesAddedAs, Lent, Passing, later_closed, NextAdded, NextAddedAs, PassReady, all_closed}
-use Rattle.merge.specs.declared.Spot.{Spot}
-use Rattle.merge.specs.declared.SeriesAdded.{SeriesAdded}
-use Rattle.key_merge.proofs.Starts.{Started}
+use Rattle.key_merge.specs.declared.Images.{Images}
+use Rattle.key_merge.specs.declared.Turn.{Turn}
+use Rattle.key_merge.specs.Turns.{Started, merged_of, next_series, later}
 use Rattle.key_merge.proofs.Keys.{Turned}
+use Rattle.point_merge.specs.declared.Sides.{Sides}
+use Rattle.point_merge.specs.Adding.{feeds_of}
+use Rattle.merge.specs.Adding.{SeriesReady, open_closed, OneAdded, Passing, later_closed, series_count, PassReady, all_closed}
 
 -- ---- between two series
 
-module _ {older newer : List ℕ} (f g : Feed) (s : Started older f) (t : Started newer g) where
-  -- where a pass starts
-  abbrev pub first_spot : Spot
-  first_spot = record { older = f; newer = g; block = first_block; entry = first_head }
+-- all series come to `whole`
+pub record Going (i : Images) (whole : Closed) (s : Sides) (b : Builder) (out : List ℕ) : Type 0 where
+  pub passing : Passing i s b out
+  pub same : later_closed i s b out ≡ whole
 
-  merged-is : merged_of older newer ≡ later older f newer g
-  merged-is = ap₂ merge s.meaning t.meaning
+-- both sides and the builder are at their start
+pub going-starts : {i : Images} {s : Sides} → Started i.older.now s.older.feed → Started i.newer.now s.newer.feed
+    → (mode : Mode) (b old : Builder) (out : List ℕ) → b ≡ record { mode = mode; kind = old.kind; places = no_key first_ends; fill = old.fill }
+    → PassReady i mode out → Going i (all_closed mode i out) s b out
+going-starts {i} {s} p q mode b old out e h =
+    let merged-is : merged_of i ≡ later i (feeds_of s) = ap₂ merge p.meaning q.meaning in
+    rw e (record {
+      passing = record {
+        standing = record { older-stands = p.stands; older-done = p.done; newer-stands = q.stands; newer-done = q.done };
+        good = subst (λ (m : Meaning). every good_series m ≡ true) merged-is h.ready.good;
+        blocks_in = omega arith;
+        room = λ l. subst (λ (m : Meaning). SeriesRoom (start_of mode) m first_ends out) merged-is (h.room l);
+      };
+      same = ap (λ (m : Meaning). series_end mode m first_ends out) (sym merged-is);
+    })
 
-  pub whole_same : (mode : Mode) (out : List ℕ) → later_closed mode older newer first_spot out ≡ all_closed mode older newer out
-  whole_same mode out = ap (λ (m : Meaning). series_end mode m first_block first_head out) (sym merged-is)
+module _ {i : Images} {whole : Closed} {s : Sides} {b : Builder} {out : List ℕ} (h : Going i whole s b out) where
+  pub going-past : (b.places.ends.block.0 ≤ image_most → b.places.ends.entry.0 ≤ image_most → ⊥) → Past whole
+  going-past past = subst Past h.same (past_first b.mode (later i (feeds_of s)) b.places.ends out past)
 
-  pub passing-starts : (mode : Mode) (out : List ℕ) → PassReady older newer mode out → Passing mode older newer first_spot out
-  passing-starts mode out h = record {
-    older-stands = s.stands;
-    older-done = s.done;
-    newer-stands = t.stands;
-    newer-done = t.done;
-    good = subst (λ (m : Meaning). every good_series m ≡ true) merged-is h.ready.good;
-    room = λ l. subst (λ (m : Meaning). SeriesRoom (start_of mode) m first_block first_head out) merged-is (h.room l);
-  }
+  pub going-end : (series_left i.older.now s.older.feed ≡ []) × (series_left i.newer.now s.newer.feed ≡ [])
+      → ◌≡◌ {A = Closed} (record { ends = b.places.ends; bytes = out }) whole
+  going-end none =
+      sym (ap (λ (m : Meaning). series_end b.mode m b.places.ends out) (ap₂ merge none.0 none.1) ∙ series-none b.mode b.places.ends out) ∙ h.same
 
-module _ {mode : Mode} {older newer : List ℕ} {z : Spot} {out : List ℕ} (h : Passing mode older newer z out) where
-  pub passing-past : (z.block.0 ≤ image_most → z.entry.0 ≤ image_most → ⊥) → Past (later_closed mode older newer z out)
-  passing-past past = past_first mode (later older z.older newer z.newer) z.block z.entry out past
+  -- the next series
+  module _ {t : Turn} (turn : Turned i (feeds_of s) t.feeds t.owner) where
+    both-good : every good_series (next_series i t ∷ later i t.feeds) ≡ true
+    both-good = subst (λ (m : Meaning). every good_series m ≡ true) turn.series h.passing.good
 
-  pub passing-end : (series_left older z.older ≡ []) × (series_left newer z.newer ≡ [])
-      → ◌≡◌ {A = Closed} (record { block = z.block; entry = z.entry; bytes = out }) (later_closed mode older newer z out)
-  passing-end none = sym (ap (λ (m : Meaning). series_end mode m z.block z.entry out) (ap₂ merge none.0 none.1) ∙ series-none mode z.block z.entry out)
+    whole_is : open_closed i t b out ≡ whole
+    whole_is = ap (λ (m : Meaning). series_end b.mode m b.places.ends out) (sym turn.series) ∙ h.same
 
-  module _ {x y : Feed} {second : Bool} (t : Turned older z.older newer z.newer x y second) where
-    both-good : every good_series (next_series second older x newer y ∷ later older x newer y) ≡ true
-    both-good = subst (λ (m : Meaning). every good_series m ≡ true) t.series h.good
-
-    abbrev whole : Closed
-    whole = open_closed second older x newer y mode z.block z.entry out
-
-    whole_is : whole ≡ later_closed mode older newer z out
-    whole_is = ap (λ (m : Meaning). series_end mode m z.block z.entry out) (sym t.series)
-
-    pub passing-ready : (older_times : List ℤ) (older_values : List ℕ) (newer_times : List ℤ) (newer_values : List ℕ) (times : List ℤ) (values : List ℕ)
-        → Lent older_times older_values newer_times newer_values times values → z.block.0 ≤ image_most → z.entry.0 ≤ image_most
-        → SeriesReady second older x older_times older_values newer y newer_times newer_values mode z.block z.entry times values out
-    passing-ready older_times older_values newer_times newer_values times values lent block_in entry_in = record {
-      older-ready = record { stands = t.older-stands; in-times = lent.older-times; in-values = lent.older-values };
-      newer-ready = record { stands = t.newer-stands; in-times = lent.newer-times; in-values = lent.newer-values };
-      older-held = t.older-held;
-      newer-held = t.newer-held;
-      in-times = lent.in-times;
-      in-values = lent.in-values;
-      good = both_left (good_series (next_series second older x newer y)) (every good_series (later older x newer y)) both-good;
-      block_in = block_in;
-      entry_in = entry_in;
-      room = λ l. subst (λ (m : Meaning). SeriesRoom (start_of mode) m z.block z.entry out) t.series (h.room l);
+    pub going-ready : (b.places.ends.block.0 ≤ image_most) × (b.places.ends.entry.0 ≤ image_most) → SeriesReady i t b out
+    going-ready within = record {
+      older-stands = turn.older-stands;
+      newer-stands = turn.newer-stands;
+      older-held = turn.older-held;
+      newer-held = turn.newer-held;
+      good = both_left (good_series (next_series i t)) (every good_series (later i t.feeds)) both-good;
+      block_in = within.0;
+      entry_in = within.1;
+      blocks_in = h.passing.blocks_in;
+      room = λ l. subst (λ (m : Meaning). SeriesRoom (start_of b.mode) m b.places.ends out) turn.series (h.passing.room l);
     }
 
-    passing-on : (z' : Spot) (out' : List ℕ) → OneAdded older x newer y mode whole z'.older z'.newer z'.block z'.entry out' → NextAdded mode older newer z out z' out'
-    passing-on z' out' o =
-        let later-is : later older z'.older newer z'.newer ≡ later older x newer y = ap₂ merge o.older-done.series o.newer-done.series in
-        record {
-          passing = record {
-            older-stands = o.older-done.stands;
-            older-done = o.older-done.done;
-            newer-stands = o.newer-done.stands;
-            newer-done = o.newer-done.done;
-            good = subst (λ (m : Meaning). every good_series m ≡ true) (sym later-is) (both_right (good_series (next_series second older x newer y)) (every good_series (later older x newer y)) both-good);
-            room = λ l. subst (λ (m : Meaning). SeriesRoom (start_of mode) m z'.block z'.entry out') (sym later-is) (o.room l);
-          };
-          same = ap (λ (m : Meaning). series_end mode m z'.block z'.entry out') later-is ∙ o.same ∙ whole_is;
-          less = omega (arith, t.less, ap length o.older-done.series, ap length o.newer-done.series);
-        }
+    pub going-given_up : Past (open_closed i t b out) → Past whole
+    going-given_up past = subst Past whole_is past
 
-    pub next-added : (r : SeriesAdded) (out' : List ℕ) → SeriesAddedAs older x newer y mode whole r out' → NextAddedAs mode older newer z out r out'
-    next-added (SeriesAdded.Series z') out' o = passing-on z' out' o
-    next-added SeriesAdded.End out' o = absurd o
-    next-added SeriesAdded.TooLong out' past = subst Past whole_is past
+    module _ {s' : Sides} {b' : Builder} {out' : List ℕ} (o : OneAdded i t (open_closed i t b out) s' b' out') where
+      later-is : later i (feeds_of s') ≡ later i t.feeds
+      later-is = ap₂ merge o.older-done.series o.newer-done.series
+
+      pub going-less : series_count i s' < series_count i s
+      going-less = omega (arith, turn.less, ap length o.older-done.series, ap length o.newer-done.series)
+
+      pub going-on : Going i whole s' b' out'
+      going-on = record {
+        passing = record {
+          standing = record { older-stands = o.older-done.stands; older-done = o.older-done.done; newer-stands = o.newer-done.stands; newer-done = o.newer-done.done };
+          good = subst (λ (m : Meaning). every good_series m ≡ true) (sym later-is) (both_right (good_series (next_series i t)) (every good_series (later i t.feeds)) both-good);
+          blocks_in = o.blocks_in;
+          room = λ l. subst (λ (m : Meaning). SeriesRoom (start_of b'.mode) m b'.places.ends out') (sym later-is) (o.room l);
+        };
+        same = ap (λ (m : Meaning). series_end b'.mode m b'.places.ends out') later-is ∙ o.same ∙ whole_is;
+      }

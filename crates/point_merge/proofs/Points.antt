@@ -1,25 +1,21 @@
 -- The merged points of a key, added fill by fill: those to come and the fill come to what the key came to at first.
 --   Along, Merging   between two steps
---   merging-starts, merging-settled   both feeds are at their next points
+--   merging-starts, merging-settled   both sides are at their next points
 --   merging-past, merging-ends   past every image, and with no point left
---   grown-fits, grown-less, grown-goes-on   the fill grew
---   points-added, points-past   what adding them answers, by cases
+--   past_points, grown-fits, grown-less, grown-goes-on   the fill grew
 use Prim.Native.Nat.{ℕ, ◌+◌, ◌≤◌, ◌<◌}
 use mathlib.Core.Path.{◌≡◌, refl, ap, ap₂, sym, subst, ◌∙◌}
 use mathlib.Core.List.{List, [], ◌∷◌, ◌++◌}
 use native.Mathlib.Omega.{arith}
-use lib.IntN.{ℤ}
 use lib.ListN.{length, length-append}
-use Rattle.format.specs.declared.Kind.{Kind}
+use Rattle.format.specs.declared.Columns.{Columns}
 use Rattle.format.specs.Limits.{image_most, writer_block_most}
 use Rattle.format.specs.Meaning.{Point}
 use Rattle.format.specs.Merge.{merge_points}
-use Rattle.format.specs.Block.{filled}
-use Rattle.builder.specs.declared.Mode.{Mode}
-use Rattle.builder.specs.declared.Places.{Places}
-use Rattle.builder.specs.Steps.{ExtendFits, Closed, closed_key, extend_places, extend_bytes}
+use Rattle.format.specs.Block.{cells, filled}
+use Rattle.builder.specs.declared.Builder.{Builder}
+use Rattle.builder.specs.Steps.{in_fill, ExtendFits, Closed, closed_key, extend_places, extend_bytes}
 use Rattle.builder.specs.Passes.{Near, Filling, Past}
-use Rattle.format.proofs.Cells.{filled-length}
 use Rattle.builder.proofs.Passes.{past-key, extend_fits, extend-filling, extend_same}
 use Rattle.feed.specs.declared.Feed.{Feed}
 use Rattle.feed.specs.Feeds.{blocks_left, points_left, series_left, Stands, Done}
@@ -27,10 +23,13 @@ use Rattle.feed.proofs.Standing.{Left}
 use Rattle.feed.proofs.Blocks.{no_block}
 use Rattle.feed.proofs.Cells.{points-blocks}
 use Rattle.block_merge.specs.declared.Merged.{Merged}
-use Rattle.block_merge.specs.Cells.{Grown}
-use Rattle.point_merge.specs.declared.PointsAdded.{PointsAdded}
-use Rattle.point_merge.specs.Adding.{Settled, merged_points, PointsReady, AllAdded, PointsAddedAs}
-use Rattle.point_merge.proofs.Settles.{passed_to, passed}
+use Rattle.block_merge.specs.declared.side.Points.{Points}
+use Rattle.block_merge.specs.Cells.{rest, Grown}
+use Rattle.key_merge.specs.declared.Images.{Images}
+use Rattle.point_merge.specs.declared.Side.{Side}
+use Rattle.point_merge.specs.declared.Sides.{Sides}
+use Rattle.point_merge.specs.Adding.{side_points, merged_points, Settled, PointsAre, PointsReady, AllAdded}
+use Rattle.point_merge.proofs.Settles.{passed_to, passed, points-rest}
 
 -- ---- between two steps
 
@@ -39,14 +38,14 @@ pub record Along (image : List ℕ) (f x : Feed) : Type 0 where
   pub stands : Stands image x
   pub series : series_left image x ≡ series_left image f
 
--- the feeds x and y of the open key, which comes to `whole`
-pub record Merging (older : List ℕ) (f : Feed) (newer : List ℕ) (g : Feed) (mode : Mode) (kind : Kind) (whole : Closed)
-    (x : Feed) (older_times : List ℤ) (older_values : List ℕ) (y : Feed) (newer_times : List ℤ) (newer_values : List ℕ)
-    (s : Places) (times : List ℤ) (values out : List ℕ) : Type 0 where
-  pub older-at : Along older f x
-  pub newer-at : Along newer g y
-  pub filling : Filling mode kind (merged_points older x older_times older_values newer y newer_times newer_values) s times values out
-  pub same : closed_key mode kind (merged_points older x older_times older_values newer y newer_times newer_values) s times values out ≡ whole
+-- from `first` and `opened` on: the open key comes to `whole`
+pub record Merging (i : Images) (first : Sides) (opened : Builder) (whole : Closed) (s : Sides) (b : Builder) (out : List ℕ) : Type 0 where
+  pub older-at : Along i.older.now first.older.feed s.older.feed
+  pub newer-at : Along i.newer.now first.newer.feed s.newer.feed
+  pub mode : b.mode ≡ opened.mode
+  pub kind : b.kind ≡ opened.kind
+  pub filling : Filling (merged_points i s) b out
+  pub same : closed_key (merged_points i s) b out ≡ whole
 
 -- ---- a longer fill
 
@@ -67,125 +66,137 @@ split (p ∷ f) (q ∷ f') a r e h =
 
 -- ---- the steps
 
-module _ {older : List ℕ} {f : Feed} {newer : List ℕ} {g : Feed} {mode : Mode} {kind : Kind}
-    {s : Places} {times : List ℤ} {values out : List ℕ} where
-  pub merging-starts : {older_times : List ℤ} {older_values : List ℕ} {newer_times : List ℤ} {newer_values : List ℕ}
-      → PointsReady older f older_times older_values newer g newer_times newer_values mode kind s times values out
-      → Merging older f newer g mode kind (closed_key mode kind (merged_points older f older_times older_values newer g newer_times newer_values) s times values out)
-      f older_times older_values g newer_times newer_values s times values out
-  merging-starts h = record {
-    older-at = record { stands = h.older-ready.stands; series = refl };
-    newer-at = record { stands = h.newer-ready.stands; series = refl };
-    filling = h.filling;
-    same = refl;
-  }
+-- the sides, past the points that were added
+abbrev pub past_points : Sides → Merged → Sides
+past_points s to = record {
+  older = record { feed = passed_to (s.older.feed.next + to.older) s.older.feed; columns = s.older.columns };
+  newer = record { feed = passed_to (s.newer.feed.next + to.newer) s.newer.feed; columns = s.newer.columns };
+}
 
-  module _ {whole : Closed} {x : Feed} {older_times : List ℤ} {older_values : List ℕ} {y : Feed} {newer_times : List ℤ} {newer_values : List ℕ}
-      (h : Merging older f newer g mode kind whole x older_times older_values y newer_times newer_values s times values out) where
-    -- the points to come
-    abbrev all : List Point
-    all = merged_points older x older_times older_values newer y newer_times newer_values
+pub merging-starts : {i : Images} {s : Sides} {b : Builder} {out : List ℕ} → PointsReady i s b out → Merging i s b (closed_key (merged_points i s) b out) s b out
+merging-starts h = record {
+  older-at = record { stands = h.older-stands; series = refl };
+  newer-at = record { stands = h.newer-stands; series = refl };
+  mode = refl;
+  kind = refl;
+  filling = h.filling;
+  same = refl;
+}
 
-    pub merging-past : (s.block.0 ≤ image_most → s.entry.0 ≤ image_most → ⊥) → Past whole
-    merging-past past = subst Past h.same (past-key mode kind (filled s.filled times values) all s out past)
+module _ {i : Images} {first : Sides} {opened : Builder} {whole : Closed} {s : Sides} {b : Builder} {out : List ℕ} (h : Merging i first opened whole s b out) where
+  abbrev older : List ℕ
+  older = i.older.now
 
-    module _ {x' : Feed} {ot : List ℤ} {ov : List ℕ} (p : Settled older x older_times older_values x' ot ov)
-        {y' : Feed} {nt : List ℤ} {nv : List ℕ} (q : Settled newer y newer_times newer_values y' nt nv) where
-      pub merging-settled : Merging older f newer g mode kind whole x' ot ov y' nt nv s times values out
-      merging-settled = record {
+  abbrev newer : List ℕ
+  newer = i.newer.now
+
+  abbrev x : Feed
+  x = s.older.feed
+
+  abbrev y : Feed
+  y = s.newer.feed
+
+  -- the points to come
+  abbrev all : List Point
+  all = merged_points i s
+
+  pub merging-past : (b.places.ends.block.0 ≤ image_most → b.places.ends.entry.0 ≤ image_most → ⊥) → Past whole
+  merging-past past = subst Past h.same (past-key b.mode b.kind (in_fill b) all b.places out past)
+
+  pub merging-settled : {t : Sides} → Settled older s.older t.older → Settled newer s.newer t.newer → Merging i first opened whole t b out
+  merging-settled {t} p q =
+      let points : merged_points i t ≡ all = ap₂ merge_points p.points q.points in
+      record {
         older-at = record { stands = p.stands; series = p.series ∙ h.older-at.series };
         newer-at = record { stands = q.stands; series = q.series ∙ h.newer-at.series };
-        filling = rw (p.points, q.points) h.filling;
-        same = rw (p.points, q.points) h.same;
+        mode = h.mode;
+        kind = h.kind;
+        filling = subst (λ (ps : List Point). Filling ps b out) (sym points) h.filling;
+        same = ap (λ (ps : List Point). closed_key ps b out) points ∙ h.same;
       }
 
-    module _ (older-end : x.count ≤ x.next → Done x) (newer-end : y.count ≤ y.next → Done y) where
-      pub merging-ends : x.count ≤ x.next → y.count ≤ y.next → AllAdded older f newer g mode kind whole s x y times values out
-      merging-ends used spent =
-          let first = points-blocks x older_times older_values older used ∙ no_block older x h.older-at.stands (older-end used).left in
-          let second = points-blocks y newer_times newer_values newer spent ∙ no_block newer y h.newer-at.stands (newer-end spent).left in
-          let none : all ≡ [] = ap₂ merge_points first second in
-          record {
-            older-done = record { stands = h.older-at.stands; done = older-end used; series = h.older-at.series };
-            newer-done = record { stands = h.newer-at.stands; done = newer-end spent; series = h.newer-at.series };
-            filling = subst (λ (ps : List Point). Filling mode kind ps s times values out) none h.filling;
-            same = ap (λ (ps : List Point). closed_key mode kind ps s times values out) (sym none) ∙ h.same;
-          }
-
-      module _ {to : Merged} {times' : List ℤ} {values' : List ℕ}
-          (grown : Grown older_times older_values x.count newer_times newer_values y.count (record { older = x.next; newer = y.next; filled = s.filled }) times values to times' values')
-          (some : x.next + y.next < x.count + y.count)
-          (same-times : length times' ≡ length times) (same-values : length values' ≡ length values) where
-        abbrev left : List Point
-        left = merged_points older (passed_to to.older x) older_times older_values newer (passed_to to.newer y) newer_times newer_values
-
-        older-passed : Left older (passed_to to.older x) (blocks_left older x) (series_left older x)
-        older-passed = passed older x to.older h.older-at.stands grown.older
-
-        newer-passed : Left newer (passed_to to.newer y) (blocks_left newer y) (series_left newer y)
-        newer-passed = passed newer y to.newer h.newer-at.stands grown.newer
-
-        all_same : filled to.filled times' values' ++ left ≡ filled s.filled times values ++ all
-        unfolding points_left
-        all_same =
-            rw (older-passed.blocks, newer-passed.blocks)
-            (grown.same (blocks_left older x) (blocks_left newer y)
-            (λ used. no_block older x h.older-at.stands (older-end used).left)
-            (λ used. no_block newer y h.newer-at.stands (newer-end used).left))
-
-        few : s.filled < writer_block_most
-        few = omega (arith, h.filling.key.fill, h.filling.key.few)
-
-        before-long : length (filled s.filled times values) ≡ s.filled
-        before-long = h.filling.key.fill
-
-        after-long : length (filled to.filled times' values') ≡ to.filled
-        after-long =
-            filled-length to.filled times' values' (omega (arith, grown.most, same-times, h.filling.in-times)) (omega (arith, grown.most, same-values, h.filling.in-values))
-
-        longer : s.filled < to.filled
-        longer = grown.more some few
-
-        parts : Split (filled s.filled times values) (filled to.filled times' values') all left
-        parts = split _ _ _ _ all_same (omega (arith, before-long, after-long, longer))
-
-        filling-parts : Filling mode kind (parts.added ++ left) s times values out
-        filling-parts = subst (λ (ps : List Point). Filling mode kind ps s times values out) parts.left h.filling
-
-        pub grown-fits : ExtendFits mode kind times' values' to.filled s out
-        grown-fits = extend_fits mode kind parts.added left s times values out filling-parts to.filled times' values' parts.laid grown.most same-times same-values
-
-        pub grown-less : length left < length all
-        grown-less =
-            omega (
-              arith,
-              longer,
-              before-long,
-              after-long,
-              ap length all_same,
-              length-append (filled to.filled times' values') left,
-              length-append (filled s.filled times values) all,
-            )
-
-        pub grown-goes-on : {s' : Places} {out' : List ℕ} → s' ≡ extend_places kind (filled to.filled times' values') s
-            → out' ≡ extend_bytes mode kind (filled to.filled times' values') s out → Near s.block s.entry
-            → Merging older f newer g mode kind whole (passed_to to.older x) older_times older_values (passed_to to.newer y) newer_times newer_values s' times' values' out'
-        grown-goes-on {s'} {out'} places laid near = record {
-          older-at = record { stands = older-passed.stands; series = older-passed.series ∙ h.older-at.series };
-          newer-at = record { stands = newer-passed.stands; series = newer-passed.series ∙ h.newer-at.series };
-          filling = extend-filling mode kind parts.added left s times values out filling-parts to.filled times' values' parts.laid grown.most same-times same-values s' out' places laid near;
-          same =
-              extend_same mode kind parts.added left s times values out filling-parts to.filled times' values' parts.laid grown.most same-times same-values s' out' places laid
-              ∙ ap (λ (ps : List Point). closed_key mode kind ps s times values out) (sym parts.left)
-              ∙ h.same;
+  module _ (older-end : x.count ≤ x.next → Done x) (newer-end : y.count ≤ y.next → Done y) where
+    pub merging-ends : x.count ≤ x.next → y.count ≤ y.next → AllAdded i first opened whole s b out
+    merging-ends used spent =
+        let ends = points-blocks x s.older.columns.times s.older.columns.values older used ∙ no_block older x h.older-at.stands (older-end used).left in
+        let stops = points-blocks y s.newer.columns.times s.newer.columns.values newer spent ∙ no_block newer y h.newer-at.stands (newer-end spent).left in
+        let none : all ≡ [] = ap₂ merge_points ends stops in
+        record {
+          older-done = record { stands = h.older-at.stands; done = older-end used; series = h.older-at.series };
+          newer-done = record { stands = h.newer-at.stands; done = newer-end spent; series = h.newer-at.series };
+          mode = h.mode;
+          kind = h.kind;
+          filling = subst (λ (ps : List Point). Filling ps b out) none h.filling;
+          same = ap (λ (ps : List Point). closed_key ps b out) (sym none) ∙ h.same;
         }
 
--- ---- what adding them answers
+    module _ {p q : Points} (are : PointsAre s.older p) (are' : PointsAre s.newer q)
+        {to : Merged} {fill : Columns writer_block_most} (grown : Grown p q b.places.filled b.fill to fill)
+        (some : 0 < length p.times.now + length q.times.now) where
+      abbrev sides : Sides
+      sides = past_points s to
 
-module _ (older : List ℕ) (f : Feed) (newer : List ℕ) (g : Feed) (mode : Mode) (kind : Kind) (whole : Closed) (r : PointsAdded) (times : List ℤ) (values out : List ℕ) where
-  pub points-added : (s : Places) (x y : Feed) → r ≡ PointsAdded.Points s x y → PointsAddedAs older f newer g mode kind whole r times values out
-      → AllAdded older f newer g mode kind whole s x y times values out
-  points-added s x y e h = subst (λ (z : PointsAdded). PointsAddedAs older f newer g mode kind whole z times values out) e h
+      abbrev left : List Point
+      left = merged_points i sides
 
-  pub points-past : r ≡ PointsAdded.TooLong → PointsAddedAs older f newer g mode kind whole r times values out → Past whole
-  points-past e h = subst (λ (z : PointsAdded). PointsAddedAs older f newer g mode kind whole z times values out) e h
+      abbrev longer-fill : List Point
+      longer-fill = filled to.filled fill.times fill.values
+
+      older-passed : Left older sides.older.feed (blocks_left older x) (series_left older x)
+      older-passed = passed older x (x.next + to.older) h.older-at.stands (omega (arith, grown.older-most, are.count, h.older-at.stands.next-most))
+
+      newer-passed : Left newer sides.newer.feed (blocks_left newer y) (series_left newer y)
+      newer-passed = passed newer y (y.next + to.newer) h.newer-at.stands (omega (arith, grown.newer-most, are'.count, h.newer-at.stands.next-most))
+
+      -- of one side, its points from a place on
+      side-same : (image : List ℕ) (side : Side) (r : Points) → PointsAre side r → (n m : ℕ) → m ≡ side.feed.next + n
+          → blocks_left image (passed_to m side.feed) ≡ blocks_left image side.feed
+          → side_points image (record { feed = passed_to m side.feed; columns = side.columns }) ≡ rest n r ++ blocks_left image side.feed
+      unfolding points_left
+      side-same image side r held n m e blocks = rw (e, points-rest side r held n) (ap (λ (ps : List Point). cells (side.feed.next + n) side.feed.count side.columns.times side.columns.values ++ ps) (subst (λ (k : ℕ). blocks_left image (passed_to k side.feed) ≡ blocks_left image side.feed) e blocks))
+
+      all_same : longer-fill ++ left ≡ in_fill b ++ all
+      all_same =
+          let after = ap₂ merge_points (side-same older s.older p are to.older (x.next + to.older) refl older-passed.blocks) (side-same newer s.newer q are' to.newer (y.next + to.newer) refl newer-passed.blocks) in
+          let before = ap₂ merge_points (side-same older s.older p are 0 x.next (omega arith) refl) (side-same newer s.newer q are' 0 y.next (omega arith) refl) in
+          ap (λ (ps : List Point). longer-fill ++ ps) after
+          ∙ grown.same (blocks_left older x) (blocks_left newer y)
+          (λ used. no_block older x h.older-at.stands (older-end (omega (arith, used, are.count))).left)
+          (λ used. no_block newer y h.newer-at.stands (newer-end (omega (arith, used, are'.count))).left)
+          ∙ ap (λ (ps : List Point). in_fill b ++ ps) (sym before)
+
+      few : b.places.filled < writer_block_most
+      few = omega (arith, h.filling.fill, h.filling.few)
+
+      long : length longer-fill ≡ to.filled
+      long = grown.count h.filling.fill
+
+      longer : b.places.filled < to.filled
+      longer = grown.more some few
+
+      parts : Split (in_fill b) longer-fill all left
+      parts = split _ _ _ _ all_same (omega (arith, h.filling.fill, long, longer))
+
+      filling-parts : Filling (parts.added ++ left) b out
+      filling-parts = subst (λ (ps : List Point). Filling ps b out) parts.left h.filling
+
+      pub grown-fits : ExtendFits to.filled (record { mode = b.mode; kind = b.kind; places = b.places; fill = fill }) out
+      grown-fits = extend_fits parts.added left b out filling-parts to.filled fill parts.laid long grown.most
+
+      pub grown-less : length left < length all
+      grown-less =
+          omega (arith, longer, h.filling.fill, long, ap length all_same, length-append longer-fill left, length-append (in_fill b) all)
+
+      pub grown-goes-on : (out' : List ℕ) → out' ≡ extend_bytes b.mode b.kind longer-fill b.places out → Near b.places.ends
+          → Merging i first opened whole sides (record { mode = b.mode; kind = b.kind; places = extend_places b.kind longer-fill b.places; fill = fill }) out'
+      grown-goes-on out' laid near = record {
+        older-at = record { stands = older-passed.stands; series = older-passed.series ∙ h.older-at.series };
+        newer-at = record { stands = newer-passed.stands; series = newer-passed.series ∙ h.newer-at.series };
+        mode = h.mode;
+        kind = h.kind;
+        filling = extend-filling parts.added left b out filling-parts to.filled fill parts.laid long grown.most out' laid near;
+        same =
+            extend_same parts.added left b out filling-parts to.filled fill parts.laid long grown.most out' laid
+            ∙ ap (λ (ps : List Point). closed_key ps b out) (sym parts.left)
+            ∙ h.same;
+      }

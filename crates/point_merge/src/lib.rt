@@ -2,95 +2,134 @@
 // moved once. Floor 7: it stands on block_merge, feed and builder.
 #![tactic(auto)]
 
+ghost use Rattle.std.specs.Prelude.{◌≡◌, ◌≤◌, true};
+ghost use Rattle.format.specs.declared.Refusal.TheVariants.{ImageTooLong};
+ghost use Rattle.format.specs.Limits.{read_block_most};
+ghost use Rattle.format.specs.File.{accepted};
 ghost use Rattle.builder.specs.Steps.{closed_key};
-ghost use Rattle.point_merge.specs.Adding.{SideReady, Settled, merged_points, PointsReady, PointsAddedAs};
+ghost use Rattle.feed.specs.Feeds.{Stands};
+ghost use Rattle.key_merge.specs.Turns.{Started};
+ghost use Rattle.point_merge.specs.Adding.{feeds_of, Settled, PointsAre, merged_points, PointsReady, PointsAddedAs};
 
-use block_merge::Merged;
-use builder::{Mode, Places};
-use feed::{Feed, NextBlock};
-use format::Kind;
+use block_merge::Points;
+use builder::Builder;
+use feed::Feed;
+use format::{Columns, READ_BLOCK_MOST, Refusal};
+use key_merge::{Feeds, Images};
 
-// The points of a key are added, and no point of it is left in either feed; or a place is past every image.
-#[derive(Clone, Copy)]
-pub enum PointsAdded {
-    Points {
-        places: Places,
-        older: Feed,
-        newer: Feed,
-    },
-    TooLong,
+// Where one image is read, and its decoded block.
+#[derive(Drop)]
+pub struct Side {
+    pub feed: Feed,
+    pub columns: Columns<READ_BLOCK_MOST>,
 }
 
-// The feed at the next point of the open key, which is in its decoded block; or at the key's end.
-fn settle(image: &[u8], from: Feed, times: &mut [i64], values: &mut [u64]) -> Feed
-    requires { SideReady image.now from times.old values.old }
-    ensures { Settled image.now from times.old values.old result times.new values.new }
-{
-    if from.next < from.count {
-        return from;
-    }
-    match feed::next_block(image, from, times, values) {
-        NextBlock::Block(on) => on,
-        NextBlock::End => from,
+// The same of both images.
+#[derive(Drop)]
+pub struct Sides {
+    pub older: Side,
+    pub newer: Side,
+}
+
+// A place is past every image: the pass is given up.
+#[derive(Clone, Copy, Debug, PartialEq, Eq)]
+pub struct TooLong;
+
+impl From<TooLong> for Refusal {
+    ghost from_gives = { λ _ refusal. refusal ≡ ImageTooLong };
+
+    fn from(_: TooLong) -> Refusal {
+        Refusal::ImageTooLong
     }
 }
 
-// Adds the merged points of the open key to the fill.
+impl Side {
+    // Goes on to the next point of the open key, which is in its decoded block; or to the key's end.
+    fn settle(&mut self, image: &[u8])
+        requires { Stands image.now self.old.feed }
+        ensures { Settled image.now self.old self.new }
+    {
+        if self.feed.next < self.feed.count {
+            return;
+        }
+        if let Some(on) = self.feed.next_block(image, &mut self.columns) {
+            self.feed = on;
+        }
+    }
+
+    // The points of the decoded block that are left.
+    fn points(&self) -> Points<'_>
+        requires { (self.now.feed.next ≤ self.now.feed.count) × (self.now.feed.count ≤ read_block_most) }
+        ensures { PointsAre self.now result }
+    {
+        let from = self.feed.next;
+        let to = self.feed.count;
+        Points {
+            times: &self.columns.times[from..to],
+            values: &self.columns.values[from..to],
+        }
+    }
+}
+
+impl Sides {
+    // Both images before their first keys, with no block decoded.
+    pub fn new(images: Images<'_>) -> Sides
+        requires { (accepted images.older.now ≡ true) × (accepted images.newer.now ≡ true) }
+        ensures { Started images.entry.older.now result.older.feed × Started images.entry.newer.now result.newer.feed }
+    {
+        Sides {
+            older: Side {
+                feed: key_merge::first(images.older),
+                columns: Columns {
+                    times: [0; READ_BLOCK_MOST],
+                    values: [0; READ_BLOCK_MOST],
+                },
+            },
+            newer: Side {
+                feed: key_merge::first(images.newer),
+                columns: Columns {
+                    times: [0; READ_BLOCK_MOST],
+                    values: [0; READ_BLOCK_MOST],
+                },
+            },
+        }
+    }
+
+    // Where both images are read.
+    pub fn feeds(&self) -> Feeds
+        ensures { result ≡ feeds_of self.now }
+    {
+        Feeds {
+            older: self.older.feed,
+            newer: self.newer.feed,
+        }
+    }
+}
+
+// Adds the merged points of the open key to the fill: none of them is left.
 pub fn merge_points(
-    older: &[u8],
-    old: Feed,
-    older_times: &mut [i64],
-    older_values: &mut [u64],
-    newer: &[u8],
-    new: Feed,
-    newer_times: &mut [i64],
-    newer_values: &mut [u64],
+    images: Images<'_>,
+    sides: &mut Sides,
     out: &mut [u8],
-    mode: Mode,
-    kind: Kind,
-    times: &mut [i64],
-    values: &mut [u64],
-    opened: Places,
-) -> PointsAdded
-    requires { PointsReady older.now old older_times.old older_values.old newer.now new newer_times.old newer_values.old mode kind opened times.old values.old out.old }
-    ensures { PointsAddedAs older.now old newer.now new mode kind (closed_key mode kind (merged_points older.now old older_times.old older_values.old newer.now new newer_times.old newer_values.old) opened times.old values.old out.old) result times.new values.new out.new }
+    builder: &mut Builder,
+) -> Result<(), TooLong>
+    requires { PointsReady images sides.old builder.old out.old }
+    ensures { PointsAddedAs images.entry sides.old builder.old (closed_key (merged_points images.entry sides.old) builder.old out.old) result sides.new builder.new out.new }
 {
-    let mut places = opened;
-    let mut first = old;
-    let mut second = new;
     loop {
-        let block = places.block;
-        let entry = places.entry;
-        if builder::past(block, entry) {
-            return PointsAdded::TooLong;
+        if builder.past() {
+            return Err(TooLong);
         }
-        first = settle(older, first, older_times, older_values);
-        second = settle(newer, second, newer_times, newer_values);
-        if first.next + second.next == first.count + second.count {
-            return PointsAdded::Points {
-                places,
-                older: first,
-                newer: second,
-            };
+        sides.older.settle(images.older);
+        sides.newer.settle(images.newer);
+        let older = sides.older.points();
+        let newer = sides.newer.points();
+        if older.times.is_empty() && newer.times.is_empty() {
+            return Ok(());
         }
-        let at = Merged {
-            older: first.next,
-            newer: second.next,
-            filled: places.filled,
-        };
-        let grown = block_merge::grow(
-            older_times,
-            older_values,
-            first.count,
-            newer_times,
-            newer_values,
-            second.count,
-            times,
-            values,
-            at,
-        );
-        first.next = grown.older;
-        second.next = grown.newer;
-        places = builder::extend(out, mode, kind, times, values, places, grown.filled);
+        let grown = block_merge::grow(older, newer, &mut builder.fill, builder.places.filled);
+        sides.older.feed.next += grown.older;
+        sides.newer.feed.next += grown.newer;
+        builder.extend(out, grown.filled);
     }
 }

@@ -5,13 +5,13 @@ use mathlib.Core.Path.{◌≡◌}
 use mathlib.Core.List.{List, [], ◌++◌, flat_map}
 use Prim.Native.Nat.{ℕ, ◌+◌, ◌/◌, ◌%◌, ◌^◌, ◌<◌}
 use native.Mathlib.Omega.{arith}
-use lib.ListN.{length, take, drop}
+use lib.ListN.{length}
 use Rattle.format.specs.Bytes.{big_endian}
 use Rattle.format.specs.Simple8b.{word_numbers, words_numbers}
 use Rattle.simple8b.specs.declared.Selector.{Selector}
 use Rattle.simple8b.specs.Selectors.{selector_of}
 use Rattle.simple8b.proofs.Words.{count_of}
-use Rattle.simple8b.proofs.Unpacking.{next-counts, next-whole, word-is, none-left}
+use Rattle.simple8b.proofs.Unpacking.{next-counts, next-whole, none-left}
 
 -- s the bytes: the words before the rest hold count numbers
 pub record Counted (s : List ℕ) (count : ℕ) (rest : List ℕ) : Type 0 where
@@ -26,11 +26,10 @@ module _ {s : List ℕ} {count : ℕ} {rest : List ℕ} (u : Counted s count res
       let n : length (words_numbers rest) ≡ 0 = rw z in
       omega (arith, u.counts)
 
-  module _ (w left : List ℕ) (e : rest ≡ w ++ left) (eight : length w ≡ 8)
-      (word : ℕ) (is : word ≡ big_endian (take 8 (drop 0 w))) (r : Selector) (f : r ≡ selector_of (word / 2 ^ 60)) where
+  module _ (w left : List ℕ) (e : rest ≡ w ++ left) (eight : length w ≡ 8) (word : ℕ) (is : word ≡ big_endian w) (r : Selector) (f : r ≡ selector_of (word / 2 ^ 60)) where
     pub counted-next : count + r.count + length (words_numbers left) ≡ length (words_numbers s)
     counted-next =
-        let c : r.count ≡ length (word_numbers (big_endian w)) = rw (word-is w eight word is) at (count_of word r f) in
+        let c : r.count ≡ length (word_numbers (big_endian w)) = rw is at (count_of word r f) in
         omega (arith, u.counts, next-counts w left rest e eight, c)
 
     pub counted-more : Counted s (count + r.count) left

@@ -7,17 +7,11 @@ use Rattle.numbers.proofs.BigEndian.{big_bytes-length}
 use Rattle.integers.proofs.Writing.{repeating-least, section-repeated, repeated-length}
 use Rattle.integers.proofs.put_repeated.Goals as goal
 
-pub bounds-stored-0 : goal.bounds-stored-0
-bounds-stored-0 c = omega (arith, repeating-least c.args.stored.now c.requires.same)
-
 pub put_first-number-requires : goal.put_first-number-requires
 put_first-number-requires c =
     let s = c.args.stored.now in
     let least : 3 ≤ length s = repeating-least s c.requires.same in
     omega (arith, repeated-length s (omega arith) c.requires.same, c.requires.room)
-
-pub bounds-stored-1 : goal.bounds-stored-1
-bounds-stored-1 c = omega (arith, repeating-least c.args.stored.now c.requires.same)
 
 pub put_varint-count-requires : goal.put_varint-count-requires
 put_varint-count-requires c =

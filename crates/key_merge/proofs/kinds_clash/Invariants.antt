@@ -5,15 +5,15 @@ use lib.ListN.{length}
 use Rattle.format.specs.Merge.{kinds_clash}
 use Rattle.merging.proofs.Sorted.{Ascending}
 use Rattle.merging.proofs.Orders.{by_key}
-use Rattle.feed.specs.Feeds.{series_left, Stands, Done}
-use Rattle.key_merge.specs.Turns.{meaning_of}
+use Rattle.feed.specs.Feeds.{series_left}
+use Rattle.key_merge.specs.Turns.{Standing, meaning_of}
 use Rattle.key_merge.proofs.kinds_clash.Given as goal
 
-abbrev pub invariant-loop-older_key : goal.invariant-loop-older_key
-invariant-loop-older_key l =
-    Stands l.older l.old × Done l.old × Stands l.newer l.new × Done l.new
-    × Ascending by_key (series_left l.older l.old) × Ascending by_key (series_left l.newer l.new)
-    × (kinds_clash (series_left l.older l.old) (series_left l.newer l.new) ≡ kinds_clash (meaning_of l.older) (meaning_of l.newer))
+abbrev pub invariant-loop-turn : goal.invariant-loop-turn
+invariant-loop-turn l =
+    Standing l.images l.at
+    × Ascending by_key (series_left l.images.older.now l.at.older) × Ascending by_key (series_left l.images.newer.now l.at.newer)
+    × (kinds_clash (series_left l.images.older.now l.at.older) (series_left l.images.newer.now l.at.newer) ≡ kinds_clash (meaning_of l.images.older.now) (meaning_of l.images.newer.now))
 
-abbrev pub decreases-loop-older_key : goal.decreases-loop-older_key
-decreases-loop-older_key l = length (series_left l.older l.old) + length (series_left l.newer l.new)
+abbrev pub decreases-loop-turn : goal.decreases-loop-turn
+decreases-loop-turn l = length (series_left l.images.older.now l.at.older) + length (series_left l.images.newer.now l.at.newer)

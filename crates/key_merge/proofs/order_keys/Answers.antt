@@ -1,27 +1,35 @@
--- `order_keys` meets its contract: the keys are compared both ways.
-use mathlib.Core.Path.{◌≡◌, refl, sym, ap₂, ◌∙◌}
+-- `order_keys` meets its contract: the keys are compared.
+use Prim.Native.Nat.{ℕ}
+use mathlib.Core.Path.{◌≡◌, refl, sym, ◌∙◌}
+use mathlib.Core.List.{List}
+use Rattle.std.specs.Cmp.Lexicographic.{slice_cmp}
+use Rattle.std.specs.Ordering.{nat_cmp, is_lt, is_gt}
+use Rattle.std.specs.declared.cmp.Ordering.{Ordering}
+use Rattle.std.specs.declared.cmp.Ordering.TheVariants.{Less, Equal, Greater}
 use Rattle.format.specs.KeyOrder.{key_before}
 use Rattle.feed.specs.Feeds.{key_of}
+use Rattle.key_merge.proofs.Keys.{order-says}
 use Rattle.key_merge.proofs.order_keys.Goals as goal
-use Rattle.key_merge.proofs.order_keys.Goals.{After-key_before, After-key_before-2}
+use Rattle.key_merge.proofs.order_keys.Goals.{After-cmp}
 
--- the first comparison
-first-is : (c : After-key_before) → c.key_before.result ≡ key_before (key_of c.args.older.now c.args.older_key) (key_of c.args.newer.now c.args.newer_key)
-first-is c = c.key_before.ensures ∙ ap₂ key_before c.key-first.ensures c.key-second.ensures
+module _ (c : After-cmp) where
+  abbrev k : List ℕ
+  k = key_of c.args.images.older.now c.args.opened.older
 
--- the second
-second_is : (c : After-key_before-2) → c.key_before-2.result ≡ key_before (key_of c.args.newer.now c.args.newer_key) (key_of c.args.older.now c.args.older_key)
-second_is c = c.key_before-2.ensures ∙ ap₂ key_before c.key-second.ensures c.key-first.ensures
+  abbrev l : List ℕ
+  l = key_of c.args.images.newer.now c.args.opened.newer
 
-pub returns-then-key_before : goal.returns-then-key_before
-returns-then-key_before c = rw (sym (first-is (goal.at.returns-then-key_before c).After-key_before) ∙ c.if-key_before.true) refl
+  order : c.cmp.result ≡ slice_cmp nat_cmp k l
+  order = rw (c.key-older.ensures, c.key-newer.ensures) at c.cmp.ensures
 
-pub returns-then-key_before-2 : goal.returns-then-key_before-2
-returns-then-key_before-2 c =
-    let at = goal.at.returns-then-key_before-2 c in
-    rw (sym (first-is at.After-key_before) ∙ c.if-key_before.false, sym (second_is at.After-key_before-2) ∙ c.if-key_before-2.true) refl
+  says : (o : Ordering) → c.cmp.result ≡ o → (key_before k l ≡ is_lt o) × (key_before l k ≡ is_gt o)
+  says o is = order-says k l o (sym is ∙ order)
 
-pub returns : goal.returns
-returns c =
-    let at = goal.at.returns c in
-    rw (sym (first-is at.After-key_before) ∙ c.if-key_before.false, sym (second_is at.After-key_before-2) ∙ c.if-key_before-2.false) refl
+pub returns-in-Less : goal.returns-in-Less
+returns-in-Less c = let order = says (goal.at.returns-in-Less c).After-cmp Less c.in-Less.is in rw order.0 refl
+
+pub returns-in-Greater : goal.returns-in-Greater
+returns-in-Greater c = let order = says (goal.at.returns-in-Greater c).After-cmp Greater c.in-Greater.is in rw (order.0, order.1) refl
+
+pub returns-in-Equal : goal.returns-in-Equal
+returns-in-Equal c = let order = says (goal.at.returns-in-Equal c).After-cmp Equal c.in-Equal.is in rw (order.0, order.1) refl

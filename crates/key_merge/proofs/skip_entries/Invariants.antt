@@ -4,8 +4,8 @@ use mathlib.Core.Path.{◌≡◌}
 use Rattle.feed.specs.Feeds.{series_left, Stands}
 use Rattle.key_merge.proofs.skip_entries.Given as goal
 
-abbrev pub invariant-loop-on : goal.invariant-loop-on
-invariant-loop-on l = Stands l.image l.on × (l.on.count ≤ l.on.next) × (series_left l.image l.on ≡ series_left l.image l.initial.on)
+abbrev pub invariant-loop-past : goal.invariant-loop-past
+invariant-loop-past l = Stands l.image l.on × (l.on.count ≤ l.on.next) × (series_left l.image l.on ≡ series_left l.image l.initial.on)
 
-abbrev pub decreases-loop-on : goal.decreases-loop-on
-decreases-loop-on l = l.on.cursor.left
+abbrev pub decreases-loop-past : goal.decreases-loop-past
+decreases-loop-past l = l.on.cursor.left

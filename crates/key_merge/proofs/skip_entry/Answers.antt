@@ -1,42 +1,41 @@
--- `skip_entry` meets its contract: a step that takes an entry leads past it.
-use Prim.Native.Nat.{ℕ, zero, suc}
-use mathlib.Core.Path.{◌≡◌, refl, ap, sym, ◌∙◌}
-use mathlib.Core.List.{List}
-use native.Mathlib.Omega.{arith}
+-- `skip_entry` meets its contract: with an entry left the next step of the cursor takes it, and leads past it.
+use mathlib.Core.Path.{◌≡◌, sym, ap, ◌∙◌}
+use Rattle.std.specs.Prelude.{Ok}
+use Rattle.index.specs.declared.Cursor.{Cursor}
 use Rattle.index.specs.declared.Step.{Step}
 use Rattle.index.specs.Frames.{index_part}
-use Rattle.index.specs.Cursors.{step_at}
-use Rattle.index.proofs.Frames.{part-start}
-use Rattle.feed.proofs.Standing.{starts}
+use Rattle.index.specs.Cursors.{step_at, entry_at, past}
+use Rattle.format.specs.declared.Entry.{Entry}
 use Rattle.feed.proofs.Blocks.{block-step}
-use Rattle.key_merge.specs.Turns.{EntrySkipped}
-use Rattle.key_merge.proofs.Skips.{entry-skipped, none-skipped}
+use Rattle.key_merge.proofs.Skips.{entry-skipped}
 use Rattle.key_merge.proofs.skip_entry.Goals as goal
 use Rattle.key_merge.proofs.skip_entry.Goals.{After-next}
 
-pub index_part-index-requires : goal.index_part-index-requires
-index_part-index-requires c = part-start _ _ (starts c.args.image.now c.args.feed c.requires)
+-- an entry is left: the step of the cursor, over the index of the image
+module _ (c : After-next) where
+  abbrev entry : Entry
+  entry = entry_at (index_part c.args.image.now c.args.feed.start.0) c.args.feed.cursor
 
--- the step of the cursor, over the index of the image
-step_is : (c : After-next) (r : Step) → c.next.result ≡ r → step_at (index_part c.args.image.now c.args.feed.start.0) c.args.feed.start.0 c.args.feed.cursor ≡ r
-step_is c r e =
-    ap (λ (l : List ℕ). step_at l c.args.feed.start.0 c.args.feed.cursor) (sym c.index_part-index.ensures) ∙ sym c.next.ensures ∙ e
+  abbrev on : Cursor
+  on = past c.args.feed.cursor entry
 
-pub next-requires : goal.next-requires
-next-requires c = rw c.index_part-index.ensures c.requires.sound
+  step : c.next.result ≡ step_at (index_part c.args.image.now c.args.feed.start.0) c.args.feed.start.0 c.args.feed.cursor
+  step = rw (c.part_of.ensures.bytes, c.part_of.ensures.start) at c.next.ensures
+
+  taken : c.next.result ≡ Ok (Step.Entry entry on)
+  taken = step ∙ block-step c.args.image.now c.args.feed c.requires c.if-feed-eq0.false
 
 pub returns-in_default : goal.returns-in_default
-returns-in_default c = go c.args.feed.cursor.left refl
-  where
-    go : (n : ℕ) → c.args.feed.cursor.left ≡ n → EntrySkipped c.args.image.now c.args.feed c.args.feed
-    go zero none = none-skipped c.args.image.now c.args.feed c.requires none
-    go (suc n) some =
-        let more : c.args.feed.cursor.left ≡ 0 → ⊥ = λ (z : c.args.feed.cursor.left ≡ 0). omega arith in
-        let is = step_is (goal.at.returns-in_default c).After-next c.next.result refl in
-        absurd (c.in_default.not-Entry _ _ (sym is ∙ block-step c.args.image.now c.args.feed c.requires more))
+returns-in_default c = absurd (c.in_default.not-Ok _ (taken (goal.at.returns-in_default c).After-next))
+
+pub returns-in_default-step : goal.returns-in_default-step
+returns-in_default-step c =
+    let d = (goal.at.returns-in_default-step c).After-next in
+    let all = sym c.in-Ok.is ∙ taken d in
+    let is : c.in-Ok.step ≡ Step.Entry (entry d) (on d) = cc in
+    absurd (c.in_default-step.not-Entry _ _ is)
 
 pub returns : goal.returns
 returns c =
-    let v = c.in-Entry.field-0 in
-    let on = c.in-Entry.on in
-    entry-skipped c.args.image.now c.args.feed c.requires v on (step_is (goal.at.returns c).After-next (Step.Entry v on) c.in-Entry.is)
+    entry-skipped c.args.image.now c.args.feed c.requires c.if-feed-eq0.false c.in-Entry.field-0 c.in-Entry.cursor
+    (sym (step (goal.at.returns c).After-next) ∙ c.in-Ok.is ∙ ap Ok c.in-Entry.is)

@@ -1,16 +1,16 @@
 -- `Feed::count_points` meets its contract.
-use Rattle.std.specs.Prelude.{Result, Ok, Err}
-use Rattle.std.proofs.Common.{rules, arith, ◌≡◌, ℕ, ◌+◌, ◌≤◌, List, sym, refl, ap, subst, ◌∙◌}
+use Rattle.std.specs.Prelude.{Result, Ok}
+use Rattle.std.proofs.Common.{arith, ◌≡◌, ◌+◌, sym, refl, ap, ◌∙◌}
 use Rattle.format.specs.declared.Fault.{Fault}
 use Rattle.format.specs.declared.Entry.{Entry}
 use Rattle.index.specs.declared.Cursor.{Cursor}
 use Rattle.index.specs.declared.Step.{Step}
-use Rattle.index.specs.Cursors.{step_at, Sound}
+use Rattle.index.specs.Cursors.{step_at}
 use Rattle.index.specs.Frames.{index_part}
 use Rattle.feed.proofs.Standing.{starts}
 use Rattle.feed.specs.Feeds.{at_cursor}
-use Rattle.feed.proofs.Blocks.{block-step, block-known}
-use Rattle.feed.proofs.Counts.{Counting, counting-start, counting-further, counting-on, counting-end}
+use Rattle.feed.proofs.Blocks.{block-only, block-known}
+use Rattle.feed.proofs.Counts.{Counting, counting-start, counting-on, counting-end}
 use Rattle.index.proofs.Taken.{entry_past}
 use Rattle.feed.proofs.Feed.count_points.Goals as goal
 use Rattle.feed.proofs.Feed.count_points.Goals.{After-next, After-count_block-count}
@@ -27,12 +27,6 @@ loop-init c = (counting-start c.args.image.now c.args.self c.requires, omega ari
 
 pub next-requires : goal.next-requires
 next-requires c = rw (c.part_of-index.ensures.bytes, c.part_of-index.ensures.start) c.loop.invariant.0.stands.sound
-
-pub returns-in_default : goal.returns-in_default
-returns-in_default c = ?
-
-pub returns-in_default-2 : goal.returns-in_default-2
-returns-in_default-2 c = ?
 
 -- the next entry, and its block
 module _ (c : After-next) (e : Entry) (on : Cursor) (s : Step) (is : c.next.result ≡ Ok s) (here : s ≡ Step.Entry e on) where
@@ -63,7 +57,26 @@ pub loop-preserved : goal.loop-preserved
 loop-preserved c =
     let at = goal.at.loop-preserved c in
     let t = taken at.After-next c.in-Ok-Entry.entry c.in-Ok-Entry.on c.in-Ok-Entry.field-0 c.in-Ok-Entry.is c.in-Ok-Entry.field-0-is in
-    (counted at.After-count_block-count t, ?)
+    let s = c.loop.invariant.0.stands in
+    let index = index_part c.args.image.now c.args.self.start.0 in
+    let on = entry_past index c.args.self.start.0 c.loop.cursor s.sound _ _ s.index c.in-Ok-Entry.entry c.in-Ok-Entry.on t in
+    (counted at.After-count_block-count t, let fewer = ap (λ (d : Cursor). d.left) on in omega (arith, fewer, c.loop.invariant.1, c.loop-test.true))
 
 pub returns : goal.returns
 returns c = counting-end c.args.image.now c.args.self c.requires c.loop.cursor c.loop.count c.loop.invariant.0 (omega (arith, c.loop.invariant.1))
+
+-- an entry is left, so no other step
+pub returns-in-Ok-Key : goal.returns-in-Ok-Key
+returns-in-Ok-Key c =
+    let is = step_is (goal.at.returns-in-Ok-Key c).After-next _ c.in-Ok-Key.is in
+    block-only c.args.image.now (at_cursor c.args.self.start c.loop.cursor) c.loop.invariant.0.stands (λ none. omega (arith, none, c.loop.invariant.1, c.loop-test.true)) _ (rw c.in-Ok-Key.field-0-is at is) refl
+
+pub returns-in-Ok-End : goal.returns-in-Ok-End
+returns-in-Ok-End c =
+    let is = step_is (goal.at.returns-in-Ok-End c).After-next _ c.in-Ok-End.is in
+    block-only c.args.image.now (at_cursor c.args.self.start c.loop.cursor) c.loop.invariant.0.stands (λ none. omega (arith, none, c.loop.invariant.1, c.loop-test.true)) _ (rw c.in-Ok-End.field-0-is at is) refl
+
+pub returns-in-Err : goal.returns-in-Err
+returns-in-Err c =
+    let is = step_is (goal.at.returns-in-Err c).After-next _ c.in-Err.is in
+    block-only c.args.image.now (at_cursor c.args.self.start c.loop.cursor) c.loop.invariant.0.stands (λ none. omega (arith, none, c.loop.invariant.1, c.loop-test.true)) _ is refl

@@ -1,15 +1,15 @@
 -- `Feed::next_block` meets its contract: with an entry left the next step of the cursor takes it, and its block is decoded.
-use Rattle.std.specs.Prelude.{Result, Ok, Err}
-use Rattle.std.proofs.Common.{rules, arith, ◌≡◌, ℕ, ◌+◌, ◌≤◌, List, sym, refl, ap, subst, ◌∙◌}
+use Rattle.std.specs.Prelude.{Result}
+use Rattle.std.proofs.Common.{arith, ◌≡◌, sym, refl, ◌∙◌}
 use Rattle.format.specs.declared.Fault.{Fault}
 use Rattle.index.specs.declared.Step.{Step}
-use Rattle.index.specs.Cursors.{step_at, Sound}
+use Rattle.index.specs.Cursors.{step_at}
 use Rattle.index.specs.Frames.{index_part}
 use Rattle.feed.proofs.Standing.{starts}
 use Rattle.format.specs.Block.{read_block}
 use Rattle.format.specs.File.{block_of}
 use Rattle.block.proofs.Answers.{answer-points}
-use Rattle.feed.proofs.Blocks.{no_block, block-step, block-known, block-opened}
+use Rattle.feed.proofs.Blocks.{no_block, block-only, block-known, block-opened}
 use Rattle.feed.proofs.Feed.next_block.Goals as goal
 use Rattle.feed.proofs.Feed.next_block.Goals.{After-next}
 
@@ -26,27 +26,34 @@ part_of-requires c = let st = starts c.args.image.now c.args.self c.requires in 
 pub next-requires : goal.next-requires
 next-requires c = rw (c.part_of.ensures.bytes, c.part_of.ensures.start) c.requires.sound
 
-pub returns-in_default : goal.returns-in_default
-returns-in_default c =
-    let is = step_is (goal.at.returns-in_default c).After-next c.next.result refl in
-    ?
-
-pub returns-in_default-2 : goal.returns-in_default-2
-returns-in_default-2 c = ?
-
-pub open_block-requires : goal.open_block-requires
-open_block-requires c =
-    let is = step_is (goal.at.open_block-requires c).After-next _ c.in-Ok-Entry.is in
+pub open_block-count-requires : goal.open_block-count-requires
+open_block-count-requires c =
+    let is = step_is (goal.at.open_block-count-requires c).After-next _ c.in-Ok-Entry.is in
     let known = block-known c.args.image.now c.args.self c.requires c.in-Ok-Entry.entry c.in-Ok-Entry.on (rw c.in-Ok-Entry.field-0-is at is) in
     (known.good, known.inside)
 
-pub returns : goal.returns
-returns c =
-    let is = step_is (goal.at.returns c).After-next _ c.in-Ok-Entry.is in
+pub returns-in-Ok-Entry : goal.returns-in-Ok-Entry
+returns-in-Ok-Entry c =
+    let is = step_is (goal.at.returns-in-Ok-Entry c).After-next _ c.in-Ok-Entry.is in
     let e = c.in-Ok-Entry.entry in
     let old = c.args.columns.now in
-    let new = c.open_block.new.columns in
-    let n = c.open_block.result in
-    rw c.at-feed.ensures
+    let new = c.open_block-count.new.columns in
+    let n = c.open_block-count.result in
+    rw c.at.ensures
     (block-opened c.args.image.now c.args.self c.requires e c.in-Ok-Entry.on (rw c.in-Ok-Entry.field-0-is at is) old.times new.times old.values new.values n
-    (answer-points old.times new.times old.values new.values n (read_block e (block_of c.args.image.now e)) c.open_block.ensures.count c.open_block.ensures.cells))
+    (answer-points old.times new.times old.values new.values n (read_block e (block_of c.args.image.now e)) c.open_block-count.ensures.count c.open_block-count.ensures.cells))
+
+-- with an entry left, no other step
+pub returns-in-Ok-Key : goal.returns-in-Ok-Key
+returns-in-Ok-Key c =
+    let is = step_is (goal.at.returns-in-Ok-Key c).After-next _ c.in-Ok-Key.is in
+    block-only c.args.image.now c.args.self c.requires c.if-self-eq0.false _ (rw c.in-Ok-Key.field-0-is at is) refl
+
+pub returns-in-Ok-End : goal.returns-in-Ok-End
+returns-in-Ok-End c =
+    let is = step_is (goal.at.returns-in-Ok-End c).After-next _ c.in-Ok-End.is in
+    block-only c.args.image.now c.args.self c.requires c.if-self-eq0.false _ (rw c.in-Ok-End.field-0-is at is) refl
+
+pub returns-in-Err : goal.returns-in-Err
+returns-in-Err c =
+    block-only c.args.image.now c.args.self c.requires c.if-self-eq0.false _ (step_is (goal.at.returns-in-Err c).After-next _ c.in-Err.is) refl

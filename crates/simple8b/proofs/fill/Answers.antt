@@ -1,10 +1,10 @@
--- `simple8b::open` meets its contract. The loop's invariant: the first cells are filled, and the bits that are left hold the others.
+-- `simple8b::fill` meets its contract. The loop's invariant: the first cells are filled, and the bits that are left hold the others.
 use Rattle.std.proofs.Common.{◌/◌, ◌^◌, bit_and, refl, ap, ◌∙◌, replicate, arith}
 use Rattle.format.specs.Simple8b.{unpack}
 use Rattle.simple8b.proofs.Widths.{masked, mask-pos}
 use Rattle.simple8b.proofs.Table.{Known, known}
 use Rattle.simple8b.proofs.Words.{ones-are, bits_are, opening-start, opening-more, opening-end}
-use Rattle.simple8b.proofs.open.Goals as goal
+use Rattle.simple8b.proofs.fill.Goals as goal
 
 pub returns-then-selector-eq0 : goal.returns-then-selector-eq0
 returns-then-selector-eq0 c =
