@@ -13,6 +13,3 @@ returns-in_err-start c =
 
 pub part_of-requires : goal.part_of-requires
 part_of-requires c = part-start _ _ (index-good _ _ (sym c.in_ok-start.ensures)).starts
-
-pub check_blocks-requires : goal.check_blocks-requires
-check_blocks-requires c = rw (c.part_of.ensures.start, c.part_of.ensures.bytes) (sym c.in_ok-start.ensures, search rules)

@@ -3,12 +3,9 @@ use Rattle.std.specs.Prelude.{Result, Ok, Err}
 use Rattle.std.proofs.Common.{rules, arith, ◌≡◌, ℕ, ◌+◌, Bool, ap, sym, ◌∙◌}
 use Rattle.format.specs.declared.Fault.{Fault}
 use Rattle.format.specs.Refusals.{Outcome, answer_of}
-use Rattle.format.specs.Block.{read_block}
-use Rattle.format.specs.File.{block_of}
 use Rattle.index.specs.declared.Step.{Step}
 use Rattle.index.proofs.Frames.{in_image, index-good}
 use Rattle.index.proofs.Loops.{After, AfterEntry, loop-step}
-use Rattle.block.proofs.Answers.{answer-points, answer-refused}
 use Rattle.reader.proofs.Checking.{counts, judged, Checking, start-check, on-key-check, on-entry-check, at-broken, at-end-check}
 use Rattle.reader.proofs.check_blocks.Goals as goal
 use Rattle.reader.proofs.check_blocks.Goals.{After-next, In_ok-totals-in-Entry}
@@ -28,9 +25,8 @@ further : (c : In_ok-totals-in-Entry)
 further c after =
     let a = c.args in
     let l = c.loop-on in
-    let e = c.in-Entry.entry in
-    on-entry-check a.image.now a.index.bytes.now a.index.start.0 l.at l.totals.keys l.totals.points l.invariant e c.in-Entry.on after _ _ _ _ _
-    (answer-points _ _ _ _ _ (read_block e (block_of a.image.now e)) (sym c.in_ok-totals-in-Entry.was ∙ c.read_entry.ensures.answer) c.read_entry.ensures.cells)
+    on-entry-check a.image.now a.index.bytes.now a.index.start.0 l.at l.totals.keys l.totals.points l.invariant c.in-Entry.entry c.in-Entry.on after _
+    c.in_ok-totals-in-Entry.ensures.answer
 
 pub loop-on-init : goal.loop-on-init
 loop-on-init c =
@@ -64,13 +60,12 @@ pub returns-in_err-totals-in-Entry : goal.returns-in_err-totals-in-Entry
 returns-in_err-totals-in-Entry c =
     let a = c.args in
     let l = c.loop-on in
-    let e = c.in-Entry.entry in
     let fault = c.in_err-totals-in-Entry.field-0.0 in
     let is : c.from_residual-in_err-totals-in-Entry.result ≡ Err fault.refusal = search rules in
     let after = stepped (goal.at.returns-in_err-totals-in-Entry c).After-next _ (c.in_ok-on.was ∙ ap Ok c.in-Entry.is) in
     rw is
-    (at-broken a.image.now a.index.bytes.now a.index.start.0 l.at l.totals.keys l.totals.points l.invariant e c.in-Entry.on after _ _
-    (answer-refused fault (read_block e (block_of a.image.now e)) (sym c.in_err-totals-in-Entry.was ∙ c.read_entry.ensures.answer)))
+    (at-broken a.image.now a.index.bytes.now a.index.start.0 l.at l.totals.keys l.totals.points l.invariant c.in-Entry.entry c.in-Entry.on after fault
+    c.in_err-totals-in-Entry.ensures.answer)
 
 pub overflow_add-totals-in-Entry : goal.overflow_add-totals-in-Entry
 overflow_add-totals-in-Entry c =

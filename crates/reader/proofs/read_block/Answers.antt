@@ -4,7 +4,7 @@ use Rattle.std.proofs.Common.{rules, ◌≡◌}
 use mathlib.Core.Logic.{inl, inr, ⊎_elim}
 use mir.Syntax.{w64}
 use mir.ValLaws.{to_z-of_z}
-use Rattle.reader.proofs.Entries.{found-refused, entry-in-image, block_refused, Located, located}
+use Rattle.reader.proofs.Entries.{found-refused, block_refused, Located, located}
 use Rattle.reader.proofs.Results.{read-refused, read-short, read-laid}
 use Rattle.reader.proofs.read_block.Goals as goal
 use Rattle.reader.proofs.read_block.Goals.{In_ok-count}
@@ -22,9 +22,6 @@ returns-in_err-entry c =
     let none = found-refused a.image.now a.key.now a.time c.in_err-entry.field-0.0 (rw (to_z-of_z w64 a.time c.ranges.time) at c.in_err-entry.ensures) in
     let h = read-refused a.image.now a.key.now a.time a.times.now a.values.now _ none.0 none.1 in
     record { answer = rw is h.0; times = h.1.0; values = h.1.1 }
-
-pub read_entry-requires : goal.read_entry-requires
-read_entry-requires c = entry-in-image c.args.image.now c.args.key.now c.args.time c.in_ok-entry.entry (rw (to_z-of_z w64 c.args.time c.ranges.time) at c.in_ok-entry.ensures)
 
 pub returns-in_err-count : goal.returns-in_err-count
 returns-in_err-count c =

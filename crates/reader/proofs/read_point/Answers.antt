@@ -3,7 +3,7 @@ use Rattle.std.specs.Prelude.{Err}
 use Rattle.std.proofs.Common.{rules, ◌≡◌, ◌∙◌}
 use mir.Syntax.{w64}
 use mir.ValLaws.{to_z-of_z}
-use Rattle.reader.proofs.Entries.{found-refused, entry-in-image, block_refused, Located, located}
+use Rattle.reader.proofs.Entries.{found-refused, block_refused, Located, located}
 use Rattle.reader.proofs.Results.{point-refused, point-found}
 use Rattle.reader.proofs.read_point.Goals as goal
 use Rattle.reader.proofs.read_point.Goals.{In_ok-n}
@@ -20,9 +20,6 @@ returns-in_err-entry c =
     let is : c.from_residual.result ≡ Err c.in_err-entry.field-0.0 = search rules in
     let none = found-refused a.image.now a.key.now a.time c.in_err-entry.field-0.0 (rw (to_z-of_z w64 a.time c.ranges.time) at c.in_err-entry.ensures) in
     rw is (point-refused a.image.now a.key.now a.time _ none.0 none.1)
-
-pub read_entry-requires : goal.read_entry-requires
-read_entry-requires c = entry-in-image c.args.image.now c.args.key.now c.args.time c.in_ok-entry.entry (rw (to_z-of_z w64 c.args.time c.ranges.time) at c.in_ok-entry.ensures)
 
 pub returns-in_err-n : goal.returns-in_err-n
 returns-in_err-n c =
