@@ -2,7 +2,7 @@
 // on builder.
 #![tactic(auto)]
 
-ghost use Rattle.std.specs.Prelude.{◌+◌, ◌≤◌, ◌<◌, length};
+ghost use Rattle.std.specs.Prelude.{◌≡◌, ◌+◌, ◌≤◌, ◌<◌, length};
 ghost use Rattle.format.specs.Limits.{writer_block_most};
 ghost use Rattle.block_merge.specs.Cells.{NextLaid, Within, RunMoved, BlocksMoved, BlockCopied, Grown};
 
@@ -119,14 +119,26 @@ fn merge_blocks(
     }
 }
 
+// Lays values over as many cells, one by one: `copy_from_slice` calls memmove where the compiler cannot tell the slices apart,
+// and the archive needs memcpy and memset alone (`tsm.h`).
+fn lay<T: Copy>(values: &[T], cells: &mut [T])
+    requires { length values.now ≡ length cells.old }
+    ensures { cells.new ≡ values.now }
+{
+    for (i, value) in values.iter().enumerate() {
+        cells[i] = *value;
+    }
+}
+
 // Copies points into the fill, as many as are left and the fill has room for: their number.
 fn copy(source: Points, fill: &mut Columns<WRITER_BLOCK_MOST>, filled: usize) -> usize
     requires { filled ≤ writer_block_most }
     ensures { BlockCopied source.entry fill.old filled result fill.new }
 {
     let more = usize::min(source.times.len(), WRITER_BLOCK_MOST - filled);
-    fill.times[filled..filled + more].copy_from_slice(&source.times[..more]);
-    fill.values[filled..filled + more].copy_from_slice(&source.values[..more]);
+    let end = filled + more;
+    lay(&source.times[..more], &mut fill.times[filled..end]);
+    lay(&source.values[..more], &mut fill.values[filled..end]);
     more
 }
 

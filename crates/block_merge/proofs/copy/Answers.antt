@@ -19,15 +19,15 @@ returns c =
     let inside : more ≤ length p.times.now = omega (arith, c.min-more.ensures) in
     let in-times : n + more ≤ length fill.times = omega (arith, c.min-more.ensures, c.requires) in
     let in-values : n + more ≤ length fill.values = omega (arith, c.min-more.ensures, c.requires) in
-    let ts = c.copy_from_slice.ensures.after in
-    let vs = c.copy_from_slice-2.ensures.after in
-    let laid_times : length c.copy_from_slice.new.self ≡ more = omega (arith, ap length ts, length-take-le more p.times.now inside) in
-    let laid_values : length c.copy_from_slice-2.new.self ≡ more = omega (arith, ap length vs, length-take-le more p.values.now (omega (arith, inside, p.same))) in
+    let ts = c.lay.ensures in
+    let vs = c.lay-2.ensures in
+    let laid_times : length c.lay.new.cells ≡ more = omega (arith, ap length ts, length-take-le more p.times.now inside) in
+    let laid_values : length c.lay-2.new.cells ≡ more = omega (arith, ap length vs, length-take-le more p.values.now (omega (arith, inside, p.same))) in
     let times =
-    take-put_mid n (n + more - n) fill.times c.copy_from_slice.new.self (n + more) (omega (arith, laid_times)) (omega (arith, in-times))
+    take-put_mid n (n + more - n) fill.times c.lay.new.cells (n + more) (omega (arith, laid_times)) (omega (arith, in-times))
     ∙ ap (λ (l : List ℤ). take n fill.times ++ l) ts in
     let values =
-    take-put_mid n (n + more - n) fill.values c.copy_from_slice-2.new.self (n + more) (omega (arith, laid_values)) (omega (arith, in-values))
+    take-put_mid n (n + more - n) fill.values c.lay-2.new.cells (n + more) (omega (arith, laid_values)) (omega (arith, in-values))
     ∙ ap (λ (l : List ℕ). take n fill.values ++ l) vs in
     record {
       inside = inside;
