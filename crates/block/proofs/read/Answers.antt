@@ -1,5 +1,5 @@
 -- `read` meets its contract: the checksum is that of the bytes after it, the body is read, and the first and the last cell are the first and the last time.
-use Rattle.std.specs.Prelude.{Ok, Err}
+use Rattle.std.specs.Prelude.{Err}
 use Rattle.std.proofs.Common.{rules, arith, ◌≡◌, ℕ, ◌+◌, ◌-◌, ◌≤◌, ℤ, Bool, ◌&&◌, List, length, take, drop, get_or, pos, map, sym, ap, ◌∙◌, length-append, length-drop}
 use lib.ListN.{length-map}
 use lib.Seq.{length-take-le, get_or-take}

@@ -1,6 +1,5 @@
 -- `read_good` meets its contract: the points of a good block are those of its sections, so they are not refused.
-use Rattle.std.specs.Prelude.{Result, Ok, Err, IsOk}
-use Rattle.std.proofs.Common.{◌≡◌, ℕ, ◌+◌, List, refl, ap, sym, subst, ◌∙◌, drop, arith}
+use Rattle.std.proofs.Common.{◌≡◌, ℕ, ◌+◌, List, ap, sym, subst, ◌∙◌, drop}
 use Rattle.format.specs.declared.Entry.{Entry}
 use Rattle.format.specs.Refusals.{Outcome}
 use Rattle.format.specs.Meaning.{Point}

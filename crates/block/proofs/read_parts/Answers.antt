@@ -1,7 +1,6 @@
 -- `read_parts` meets its contract: each section is read as the part that it is, with its place added.
 use Rattle.std.specs.Prelude.{Ok, Err}
 use Rattle.std.proofs.Common.{rules, arith, ◌≡◌, ℕ, ◌+◌, ◌-◌, ◌≤◌, List, length, take, drop, sym, ap, ◌∙◌, length-drop}
-use Rattle.format.specs.declared.Fault.{Fault}
 use Rattle.format.specs.declared.Refusal.TheVariants.{Timestamps, Values}
 use Rattle.format.specs.Refusals.{told, faulted}
 use Rattle.format.specs.Timestamps.{read_times}

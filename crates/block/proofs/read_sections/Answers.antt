@@ -1,6 +1,6 @@
 -- `read_sections` meets its contract: each test of T is the definition's own, in its order, and the two sections follow.
 use Rattle.std.specs.Prelude.{Result, Ok, Err, IfErr}
-use Rattle.std.proofs.Common.{rules, arith, ◌≡◌, ℕ, ◌+◌, ◌≤◌, ◌<◌, ◌^◌, refl, List, length, sym, ap, ◌∙◌}
+use Rattle.std.proofs.Common.{rules, arith, ◌≡◌, ℕ, ◌+◌, ◌≤◌, ◌<◌, ◌^◌, refl, List, length, sym, ◌∙◌}
 use Rattle.format.specs.declared.Refusal.TheVariants.{BlockHead}
 use Rattle.numbers.specs.VarintAt.{varint_at, number, broken}
 use Rattle.numbers.proofs.VarintPlaces.{varint_at-number, varint_at-broken}

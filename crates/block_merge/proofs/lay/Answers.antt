@@ -1,5 +1,5 @@
 -- `lay` meets its contract: the values that are left, laid from i on, make what all of them make from the start.
-use Rattle.std.proofs.Common.{◌≡◌, ℕ, ◌+◌, List, ◌∷◌, get_or, set, drop, sym, ap, ◌∙◌, arith, add-one, drop-cons, drop_of_length-le}
+use Rattle.std.proofs.Common.{◌≡◌, ◌+◌, ◌∷◌, drop, sym, ap, ◌∙◌, arith, add-one, drop-cons, drop_of_length-le}
 use Rattle.format.specs.Bytes.{splice}
 use Rattle.format.proofs.Splices.{splice-nothing, splice_front, splice-store, overwrite-whole}
 use Rattle.block_merge.proofs.lay.Goals as goal
