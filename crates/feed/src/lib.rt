@@ -55,6 +55,8 @@ fn count_block(image: &[u8], entry: Entry) -> usize
     block::count_good(index::block_part(image, entry), entry)
 }
 
+// The image is lent to each step, and is no part of a feed: where two feeds of one image are compared (before and after a step,
+// in a turn of a merge), each clause would have to say first that their images are one.
 impl Feed {
     // The same image's feed at a cursor, with no block decoded.
     fn at(self, cursor: Cursor) -> Feed
