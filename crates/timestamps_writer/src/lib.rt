@@ -22,8 +22,7 @@ const WORD: usize = 8;
 // Most differences of a block.
 const MOST: usize = READ_BLOCK_MOST - 1;
 
-// Cells for a block of few points, for which `len` and `put` clear these alone: that is there for speed. Both say so for
-// themselves: a function over the cells would have to be told what either of them promises of its own.
+// Cells for a block of few points, for which `len` and `put` clear these alone: that is there for speed.
 const FEW: usize = 32;
 
 // The exponent stands in the low four bits of the first byte, and the form in the high four.
