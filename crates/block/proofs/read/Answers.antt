@@ -46,7 +46,7 @@ returns-in_err-n c =
 
 -- its points, n of them, and the cells that hold them
 module _ (c : In_ok-n) where
-  are : PointsAre c.args.columns.now.times c.read_body.new.columns.times c.args.columns.now.values c.read_body.new.columns.values c.in_ok-n.n (body c.args.entry c.args.block.now)
+  are : PointsAre c.args.times.now c.read_body.new.times c.args.values.now c.read_body.new.values c.in_ok-n.n (body c.args.entry c.args.block.now)
   are = answer-points _ _ _ _ c.in_ok-n.n (body c.args.entry c.args.block.now) (sym c.in_ok-n.was ∙ c.read_body.ensures.answer) c.read_body.ensures.cells
 
   counted : Few (length are.points)
@@ -59,19 +59,16 @@ module _ (c : In_ok-n) where
   some = omega (arith, counted.some, are.count)
 
   -- the columns are as long as before
-  within : c.in_ok-n.n ≤ length c.read_body.new.columns.times
+  within : c.in_ok-n.n ≤ length c.read_body.new.times
   within =
       let times = map (λ p. p.time) are.points in
       let many : length times ≡ length are.points = length-map are.points (λ p. p.time) in
-      omega (arith, few, many, are.count, ap length are.times, length-append times (drop (length times) c.args.columns.now.times), length-drop (length times) c.args.columns.now.times)
-
-pub shared_ref_as_front-ends_match : goal.shared_ref_as_front-ends_match
-shared_ref_as_front-ends_match c = few (goal.at.shared_ref_as_front-ends_match c).In_ok-n
+      omega (arith, few, many, are.count, ap length are.times, length-append times (drop (length times) c.args.times.now), length-drop (length times) c.args.times.now)
 
 pub ends_match-requires : goal.ends_match-requires
 ends_match-requires c =
     let k = (goal.at.ends_match-requires c).In_ok-n in
-    rw (length-take-le c.in_ok-n.n c.read_body.new.columns.times (within k)) (some k)
+    rw (length-take-le c.in_ok-n.n c.read_body.new.times (within k)) (some k)
 
 -- the first and the last of the first n times
 ends : (n : ℕ) (times : List ℤ) (entry : Entry) → 1 ≤ n → n ≤ length times
@@ -80,11 +77,11 @@ ends n times entry h k =
     rw (length-take-le n times k, get_or-take n times 0 (pos 0) (omega arith), get_or-take n times (n - 1) (pos 0) (omega arith))
 
 -- the test of the first and the last time
-tested : (c : After-ends_match) (p : PointsAre c.args.columns.now.times c.read_body.new.columns.times c.args.columns.now.values c.read_body.new.columns.values c.in_ok-n.n (body c.args.entry c.args.block.now))
-    → c.in_ok-n.n ≤ length c.read_body.new.columns.times → Few (length p.points) → (match : Bool) → c.ends_match.result ≡ match
+tested : (c : After-ends_match) (p : PointsAre c.args.times.now c.read_body.new.times c.args.values.now c.read_body.new.values c.in_ok-n.n (body c.args.entry c.args.block.now))
+    → c.in_ok-n.n ≤ length c.read_body.new.times → Few (length p.points) → (match : Bool) → c.ends_match.result ≡ match
     → same_time (first_time p.points) c.args.entry.min && same_time (last_time p.points) c.args.entry.max ≡ match
 tested c p inside count match e =
-    let times = c.read_body.new.columns.times in
+    let times = c.read_body.new.times in
     let first = first_cell _ times p.points p.times count.some in
     let last = last-cell _ times p.points p.times count.some c.in_ok-n.n p.count in
     rw (← first, ← last) (sym (ends c.in_ok-n.n times c.args.entry (omega (arith, count.some, p.count)) inside) ∙ sym c.ends_match.ensures ∙ e)

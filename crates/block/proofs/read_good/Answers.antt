@@ -1,5 +1,5 @@
 -- `read_good` meets its contract: the points of a good block are those of its sections, so they are not refused.
-use Rattle.std.proofs.Common.{◌≡◌, ℕ, ◌+◌, List, ap, sym, subst, ◌∙◌, drop}
+use Rattle.std.proofs.Common.{rules, ◌≡◌, ℕ, ◌+◌, List, ap, sym, subst, ◌∙◌, drop}
 use Rattle.format.specs.declared.Entry.{Entry}
 use Rattle.format.specs.Refusals.{Outcome}
 use Rattle.format.specs.Meaning.{Point}
@@ -10,7 +10,7 @@ use Rattle.block.proofs.read_good.Goals as goal
 use Rattle.block.proofs.read_good.Goals.{After-read_sections}
 
 pub read_sections-requires : goal.read_sections-requires
-read_sections-requires c = ((block-good c.args.entry c.args.block.now c.requires.0).long, c.requires.1)
+read_sections-requires c = ((block-good c.args.entry c.args.block.now c.requires.0).long, c.requires.1, search rules, search rules)
 
 -- the sections are read
 module _ (c : After-read_sections) where
@@ -35,7 +35,7 @@ unwrap-requires c = let r = (goal.at.unwrap-requires c).After-read_sections in r
 pub returns : goal.returns
 returns c =
     let r = (goal.at.returns c).After-read_sections in
-    let new = c.read_sections.new.columns in record {
+    let new = c.read_sections.new in record {
       count = sym c.unwrap.ensures ∙ answer r;
       cells = subst (λ (a : Outcome (List Point)). PointsLaid a c.args.columns.now.times new.times c.args.columns.now.values new.values) (whole r) c.read_sections.ensures.cells;
     }

@@ -49,12 +49,12 @@ module _ (c : In_ok-n) where
   counted : Ok c.in_ok-n.n ≡ told length (read_times 0 part)
   counted = sym (placed-ok Timestamps (c.args.next + c.args.offset.0) c.read-read.result c.in_ok-n.n (sym c.placed.ensures ∙ c.in_ok-n.was)) ∙ c.read-read.ensures.answer
 
-  times_are : TimesAre (c.args.next + c.args.offset.0) c.in_ok-n.n part c.args.columns.now.times c.read-read.new.times
-  times_are = times-count (c.args.next + c.args.offset.0) c.in_ok-n.n part c.args.columns.now.times c.read-read.new.times counted c.read-read.ensures.times
+  times_are : TimesAre (c.args.next + c.args.offset.0) c.in_ok-n.n part c.args.times.now c.read-read.new.times
+  times_are = times-count (c.args.next + c.args.offset.0) c.in_ok-n.n part c.args.times.now c.read-read.new.times counted c.read-read.ensures.times
 
   -- the values as the timestamps left them
-  spare : drop c.in_ok-n.n c.read-read.new.cells ≡ drop c.in_ok-n.n c.args.columns.now.values
-  spare = times-spare c.in_ok-n.n part c.args.columns.now.values c.read-read.new.cells counted c.read-read.ensures.spare
+  spare : drop c.in_ok-n.n c.read-read.new.cells ≡ drop c.in_ok-n.n c.args.values.now
+  spare = times-spare c.in_ok-n.n part c.args.values.now c.read-read.new.cells counted c.read-read.ensures.spare
 
   few : c.in_ok-n.n ≤ 1000
   few = omega (arith, (times-few (c.args.next + c.args.offset.0) part times_are.times times_are.read).few, times_are.count)
@@ -62,6 +62,12 @@ module _ (c : In_ok-n) where
   -- so many cells are lent for the values
   cells : length (take c.in_ok-n.n c.read-read.new.cells) ≡ c.in_ok-n.n
   cells = length-take-le c.in_ok-n.n c.read-read.new.cells (omega (arith, few, c.read-read.auto))
+
+pub slice_bounds-read_values-end-2 : goal.slice_bounds-read_values-end-2
+slice_bounds-read_values-end-2 c = omega (arith, few (goal.at.slice_bounds-read_values-end-2 c).In_ok-n, c.read-read.auto)
+
+pub slice_bounds-read_values-end-3 : goal.slice_bounds-read_values-end-3
+slice_bounds-read_values-end-3 c = sym (cells (goal.at.slice_bounds-read_values-end-3 c).In_ok-n)
 
 -- the values, where they stand
 module _ (c : After-read_values-laid) where
@@ -110,5 +116,5 @@ returns c =
     let is = placed-ok Values place c.read_values-laid.result c.in_ok-placed.field-0 (sym c.placed-2.ensures ∙ c.in_ok-placed.was) in
     let read = values-read a.kind place n part (take n lent) laid_part (sym is ∙ answer at.After-read_values-laid (cells k)) (laid at.After-read_values-laid (cells k)) in
     let whole = values-part a.kind place n part lent laid_part (omega (arith, few k, c.read-read.auto)) read in
-    let h = both_read a.kind a.offset.0 a.next a.split a.block.now _ _ _ _ n (times_are k) (values-over a.kind place n part a.columns.now.values lent _ (spare k) whole) in
+    let h = both_read a.kind a.offset.0 a.next a.split a.block.now _ _ _ _ n (times_are k) (values-over a.kind place n part a.values.now lent _ (spare k) whole) in
     record { answer = h.0; cells = h.1 }
