@@ -8,7 +8,7 @@ use Rattle.index.proofs.Frames.{in_image, index-good}
 use Rattle.index.proofs.Loops.{After, AfterEntry, loop-step}
 use Rattle.reader.proofs.Checking.{counts, judged, Checking, start-check, on-key-check, on-entry-check, at-broken, at-end-check}
 use Rattle.reader.proofs.check_blocks.Goals as goal
-use Rattle.reader.proofs.check_blocks.Goals.{After-next, In_ok-totals-in-Entry}
+use Rattle.reader.proofs.check_blocks.Goals.{After-next, In_ok-count-in-Entry}
 
 -- what the step that `next` answers gives
 stepped : (c : After-next) (s : Result Step Fault) → c.next.result ≡ s
@@ -19,14 +19,14 @@ stepped c s e =
     loop-step a.index.bytes.now a.index.start.0 (judged a.image.now) l.at (counts a.image.now l.totals.keys l.totals.points) l.invariant.state s (sym c.next.ensures ∙ e)
 
 -- the state past an entry, with the points of its block
-further : (c : In_ok-totals-in-Entry)
+further : (c : In_ok-count-in-Entry)
     → AfterEntry c.args.index.bytes.now c.args.index.start.0 (judged c.args.image.now) c.loop-on.at (counts c.args.image.now c.loop-on.totals.keys c.loop-on.totals.points) c.in-Entry.entry c.in-Entry.on
-    → Checking c.args.image.now c.args.index.bytes.now c.args.index.start.0 c.in-Entry.on c.loop-on.totals.keys (c.loop-on.totals.points + c.in_ok-totals-in-Entry.field-0)
+    → Checking c.args.image.now c.args.index.bytes.now c.args.index.start.0 c.in-Entry.on c.loop-on.totals.keys (c.loop-on.totals.points + c.in_ok-count-in-Entry.count)
 further c after =
     let a = c.args in
     let l = c.loop-on in
     on-entry-check a.image.now a.index.bytes.now a.index.start.0 l.at l.totals.keys l.totals.points l.invariant c.in-Entry.entry c.in-Entry.on after _
-    c.in_ok-totals-in-Entry.ensures.answer
+    c.in_ok-count-in-Entry.ensures.answer
 
 pub loop-on-init : goal.loop-on-init
 loop-on-init c =
@@ -56,21 +56,21 @@ read_entry-requires c =
     let block = (stepped (goal.at.read_entry-requires c).After-next _ (c.in_ok-on.was ∙ ap Ok c.in-Entry.is)).step.block in
     in_image a.image.now _ starts.framed block.least (omega (arith, block.within, starts.start))
 
-pub returns-in_err-totals-in-Entry : goal.returns-in_err-totals-in-Entry
-returns-in_err-totals-in-Entry c =
+pub returns-in_err-count-in-Entry : goal.returns-in_err-count-in-Entry
+returns-in_err-count-in-Entry c =
     let a = c.args in
     let l = c.loop-on in
-    let fault = c.in_err-totals-in-Entry.field-0.0 in
-    let is : c.from_residual-in_err-totals-in-Entry.result ≡ Err fault.refusal = search rules in
-    let after = stepped (goal.at.returns-in_err-totals-in-Entry c).After-next _ (c.in_ok-on.was ∙ ap Ok c.in-Entry.is) in
+    let fault = c.in_err-count-in-Entry.field-0.0 in
+    let is : c.from_residual-in_err-count-in-Entry.result ≡ Err fault.refusal = search rules in
+    let after = stepped (goal.at.returns-in_err-count-in-Entry c).After-next _ (c.in_ok-on.was ∙ ap Ok c.in-Entry.is) in
     rw is
     (at-broken a.image.now a.index.bytes.now a.index.start.0 l.at l.totals.keys l.totals.points l.invariant c.in-Entry.entry c.in-Entry.on after fault
-    c.in_err-totals-in-Entry.ensures.answer)
+    c.in_err-count-in-Entry.ensures.answer)
 
 pub overflow_add-totals-in-Entry : goal.overflow_add-totals-in-Entry
 overflow_add-totals-in-Entry c =
     let at = goal.at.overflow_add-totals-in-Entry c in
-    let k = further at.In_ok-totals-in-Entry (stepped at.After-next _ (c.in_ok-on.was ∙ ap Ok c.in-Entry.is)) in
+    let k = further at.In_ok-count-in-Entry (stepped at.After-next _ (c.in_ok-on.was ∙ ap Ok c.in-Entry.is)) in
     omega (arith, k.few-points, k.state.sound.entries, k.state.sound.image)
 
 pub loop-on-smaller : goal.loop-on-smaller
@@ -79,7 +79,7 @@ loop-on-smaller c = (stepped (goal.at.loop-on-smaller c).After-next _ (c.in_ok-o
 pub loop-on-preserved : goal.loop-on-preserved
 loop-on-preserved c =
     let at = goal.at.loop-on-preserved c in
-    further at.In_ok-totals-in-Entry (stepped at.After-next _ (c.in_ok-on.was ∙ ap Ok c.in-Entry.is))
+    further at.In_ok-count-in-Entry (stepped at.After-next _ (c.in_ok-on.was ∙ ap Ok c.in-Entry.is))
 
 pub returns-in-End : goal.returns-in-End
 returns-in-End c =
