@@ -86,7 +86,7 @@ fn order_keys(images: Images<'_>, at: Feeds, opened: Feeds) -> Turn
 {
     let older = opened.older.key(images.older);
     let newer = opened.newer.key(images.newer);
-    match older.cmp(newer) {
+    match keys::compare(older, newer) {
         Ordering::Less => Turn {
             feeds: Feeds {
                 older: opened.older,
