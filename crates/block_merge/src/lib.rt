@@ -1,5 +1,5 @@
-// The points of two decoded blocks merged into the fill of the builder, on plain numbers and slices. Floor 7: it stands
-// on builder.
+// The points of two decoded blocks, as slices of times and values, merged into the fill of the builder. Floor 7: it stands on
+// builder.
 #![tactic(auto)]
 
 ghost use Rattle.std.specs.Prelude.{◌≡◌, ◌+◌, ◌≤◌, ◌<◌, length};
@@ -144,7 +144,6 @@ fn copy(source: Points, fill: &mut Columns<WRITER_BLOCK_MOST>, filled: usize) ->
 
 // Merges points of two blocks into the fill, which has `filled`. Where a block has no point left, its side has none left
 // at all, and the other's points follow.
-
 pub fn grow(
     older: Points,
     newer: Points,

@@ -1,5 +1,4 @@
 -- The search for the exponent: the differences before a place are divided by its power of ten, and no larger one divides all.
---   pass-more, pass-stop, pass-end   differences that a scale divides
 --   find-nothing, find_first   there is no difference, or ten does not divide the first
 --   Finding, find-start, find-less, find-end, find_none   the state of the search
 use mathlib.Core.Path.{◌≡◌, refl, sym, ap, subst, ◌∙◌}
